@@ -230,6 +230,13 @@ impl Numbers {
         self.numbers.len()
     }
 
+    /// Lends the whole.
+    pub fn as_slice(&self) -> &[u64]
+        ensures { result.now ≡ self.now }
+    {
+        &self.numbers
+    }
+
     /// The number at that place, counted from 0; `None` past the end.
     pub fn get(&self, k: usize) -> Option<u64>
         ensures { result ≡ slice_get self.now k }
