@@ -1,0 +1,9 @@
+pub mod Told
+pub mod Counted
+pub mod Fetches
+pub mod Keeps
+pub mod Writes
+pub mod Readings
+pub mod MemStates
+pub mod Pairs
+pub mod MemViews
