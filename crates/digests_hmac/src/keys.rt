@@ -1,0 +1,154 @@
+//! Key files: lines of a key in hexadecimal digits, one space and the key's name.
+
+ghost use Rattle.std.specs.Prelude.{◌≡◌, ◌↔◌, ◌<◌, ◌≤◌, ◌==◌, MatchOption, IfOk, not, nat_lt, length};
+ghost use Rattle.std.specs.List.{list_all, position_or_len};
+ghost use Rattle.digests_hmac.specs.KeyLines.{before_lf, first_key, is_printable};
+ghost use Rattle.digests_hmac.specs.KeyLines as spec;
+
+use sig_base::Octets;
+use std::alloc::{AllocError, Global};
+
+/// Why no key was read from a key file of one line.
+#[derive(Clone, Copy, Debug, PartialEq, Eq, Drop)]
+pub enum FirstKeyFault {
+    /// The file isn't one key line with a printable name, ended by LF.
+    NotBuilt,
+    /// Memory that was asked for was not given.
+    Memory,
+}
+
+impl From<AllocError> for FirstKeyFault {
+    ghost use Rattle.digests_hmac.specs.declared.keys.FirstKeyFault.TheVariants.{Memory};
+
+    ghost from_gives = { λ _ fault. fault ≡ Memory };
+
+    fn from(_: AllocError) -> FirstKeyFault {
+        FirstKeyFault::Memory
+    }
+}
+
+/// The value of a hexadecimal digit of either case.
+fn digit_value(octet: u8) -> Option<u8>
+    ensures { result ≡ spec.digit_value octet }
+{
+    match octet {
+        b'0'..=b'9' => Some(octet - b'0'),
+        b'A'..=b'F' => Some(octet - b'A' + 10),
+        b'a'..=b'f' => Some(octet - b'a' + 10),
+        _ => None,
+    }
+}
+
+/// The value of a digit, and 0 of what is none.
+fn value_of(octet: u8) -> u8
+    ensures value { result ≡ spec.value_of octet }
+    ensures small { result < 16 }
+{
+    digit_value(octet).unwrap_or(0)
+}
+
+/// Whether each octet is a hexadecimal digit.
+fn are_digits(octets: &[u8]) -> bool
+    ensures { result ≡ list_all spec.is_digit octets.now }
+{
+    octets.iter().all(|octet| digit_value(*octet).is_some())
+}
+
+/// Whether these are the digits of a key: an even number of them, 2 to 8,192.
+pub(crate) fn is_key_digits(digits: &[u8]) -> bool
+    ensures { result ≡ spec.is_key_digits digits.now }
+{
+    2 <= digits.len() && digits.len() <= 8192 && digits.len() % 2 == 0 && are_digits(digits)
+}
+
+/// Whether no octet is a control character below the space.
+fn have_no_controls(octets: &[u8]) -> bool
+    ensures { result ≡ list_all (λ c. not (nat_lt c 32)) octets.now }
+{
+    octets.iter().all(|octet| *octet >= 32)
+}
+
+/// Whether this is the name of a key: 1 to 256 octets with no control character below the space.
+pub(crate) fn is_key_name(name: &[u8]) -> bool
+    ensures { result ≡ spec.is_key_name name.now }
+{
+    1 <= name.len() && name.len() <= 256 && have_no_controls(name)
+}
+
+/// Whether each octet is a printable character of ASCII.
+fn are_printable(octets: &[u8]) -> bool
+    ensures { result ≡ list_all is_printable octets.now }
+{
+    octets.iter().all(|octet| 32 <= *octet && *octet <= 126)
+}
+
+/// The octets that pairs of digits spell, the high digit first.
+pub(crate) fn octets_of_digits(alloc: Global, digits: &[u8]) -> Result<Vec<u8>, AllocError>
+    ensures { IfOk result (λ v. v.items ≡ spec.octets_of_digits digits.now) }
+{
+    let mut octets = Vec::with_capacity(alloc, digits.len() / 2)?;
+    for i in 0..digits.len() / 2 {
+        octets.push(16 * value_of(digits[2 * i]) + value_of(digits[2 * i + 1]))?;
+    }
+    Ok(octets)
+}
+
+/// What stands before the LF that ends the octets.
+fn before_lf(octets: &[u8]) -> Option<&[u8]>
+    ensures { MatchOption result (before_lf octets.now ≡ None) (λ line. before_lf octets.now ≡ Some line.now) }
+{
+    if !octets.is_empty() && octets[octets.len() - 1] == b'\n' {
+        return Some(&octets[..octets.len() - 1]);
+    }
+    None
+}
+
+/// The place of the first octet that is the wanted one, or the length where there is none.
+pub(crate) fn place_of(octets: &[u8], wanted: u8) -> usize
+    ensures place { result ≡ position_or_len (λ octet. octet == wanted) octets.now }
+    ensures within { result ≤ length octets.now }
+{
+    for (i, octet) in octets.iter().enumerate() {
+        if *octet == wanted {
+            return i;
+        }
+    }
+    octets.len()
+}
+
+/// The digits of a key line with a printable name.
+fn digits_in(line: &[u8]) -> Option<&[u8]>
+    ensures { MatchOption result (spec.key_in line.now ≡ None) (λ digits. spec.key_in line.now ≡ Some (spec.octets_of_digits digits.now)) }
+{
+    let space = place_of(line, b' ');
+    if space == line.len() {
+        return None;
+    }
+    if !is_key_digits(&line[..space]) {
+        return None;
+    }
+    let name = &line[space + 1..];
+    if !is_key_name(name) || !are_printable(name) {
+        return None;
+    }
+    Some(&line[..space])
+}
+
+/// The key of a file that is one key line with a printable name, ended by LF.
+///
+/// `NotBuilt` comes exactly where the file is another one: a comment, two lines, an end of CR LF or no end, a name with
+/// an octet outside `#x20` to `#x7E`.
+#[tactic(auto, unfolding(crate::specs::KeyLines::first_key))]
+pub fn read_first_key(alloc: Global, bytes: &[u8]) -> Result<Octets, FirstKeyFault>
+    ensures key { IfOk result (λ key. first_key bytes.now ≡ Some key) }
+    ensures not_built { (result ≡ Err FirstKeyFault.NotBuilt) ↔ (first_key bytes.now ≡ None) }
+{
+    let Some(line) = before_lf(bytes) else {
+        return Err(FirstKeyFault::NotBuilt);
+    };
+    let Some(digits) = digits_in(line) else {
+        return Err(FirstKeyFault::NotBuilt);
+    };
+    let octets = octets_of_digits(alloc, digits)?;
+    Ok(Octets::from_vec(octets))
+}
