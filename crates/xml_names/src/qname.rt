@@ -1,0 +1,76 @@
+//! Qualified names (Namespaces in XML 1.0 §3 and §4).
+ghost use Rattle.std.specs.Prelude.{◌≡◌, [], ◌∷◌, option_map, IfNone, IfSome};
+ghost use Rattle.std.specs.List.{list_all};
+ghost use Rattle.std.specs.Str.{chars};
+ghost use Rattle.xml_names.specs.Names.{SplitsQNames, begins_part, is_ncname, is_part_char, qname_of};
+
+use crate::class::{is_name_char, is_name_start};
+
+/// Whether the character may stand in an NCName.
+fn is_part_char(c: char) -> bool
+    ensures { result ≡ is_part_char c }
+{
+    is_name_char(c) && c != ':'
+}
+
+/// Whether each character may stand in an NCName.
+fn are_part_chars(text: &str) -> bool
+    ensures { result ≡ list_all is_part_char (chars text.now) }
+{
+    text.chars().all(|c| is_part_char(c))
+}
+
+/// The first character, and the rest.
+fn split_first(text: &str) -> Option<(char, &str)>
+    ensures none { IfNone result (chars text.now ≡ []) }
+    ensures some { IfSome result (λ x. chars text.now ≡ x.0 ∷ chars x.1.now) }
+{
+    let mut chars = text.chars();
+    match chars.next() {
+        Some(c) => Some((c, chars.as_str())),
+        None => None,
+    }
+}
+
+/// Whether an NCName may begin as the text does.
+fn begins_part(text: &str) -> bool
+    ensures { result ≡ begins_part (chars text.now) }
+{
+    match split_first(text) {
+        Some((c, _rest)) => is_name_start(c) && c != ':',
+        None => false,
+    }
+}
+
+/// Whether the text is an NCName, that is a Name without a colon (Namespaces in XML 1.0 §3).
+#[tactic(auto, unfolding(crate::specs::Names::is_ncname))]
+pub fn is_ncname(text: &str) -> bool
+    ensures { result ≡ is_ncname text.now }
+{
+    begins_part(text) && are_part_chars(text)
+}
+
+/// The prefix and the local name of a QName (Namespaces in XML 1.0 §4). The prefix is empty where there is none. `None`
+/// comes exactly where the text is no QName. It takes no memory.
+#[tactic(auto, unfolding(crate::specs::Names::qname_of))]
+pub fn split_qname(text: &str) -> Option<(&str, &str)>
+    ensures parts { qname_of text.now ≡ option_map (λ x. (x.0.now, x.1.now)) result }
+    ensures law { SplitsQNames text.now }
+{
+    match text.split_once(':') {
+        Some((prefix, local)) => {
+            if is_ncname(prefix) && is_ncname(local) {
+                Some((prefix, local))
+            } else {
+                None
+            }
+        }
+        None => {
+            if is_ncname(text) {
+                Some(("", text))
+            } else {
+                None
+            }
+        }
+    }
+}
