@@ -1,0 +1,10 @@
+pub mod Kinds
+pub mod Rows
+pub mod Fits
+pub mod Shape
+pub mod Fields
+pub mod Values
+pub mod Ids
+pub mod FirstForm
+pub mod FirstParts
+pub mod FirstRows

@@ -1,0 +1,22 @@
+//! A document as a flat list of rows in document order, kept in an arena.
+//!
+//! A row is a node of XPath's data model (XPath 1.0 §5), and its number is its place in document order. The root
+//! comes first. Behind an element stand its namespace nodes, then its attribute nodes, then its children. Nothing is
+//! linked by pointers: a row names its parent and the last row of its subtree, so that a subtree is a range.
+//!
+//! [`RowList`] collects rows, and [`Doc`] lends those that are the rows of a document. That they are so is one
+//! definition, `IsWellShaped` of `specs/Shape.antt`, which every `Doc` keeps.
+#![tactic(auto)]
+
+mod doc;
+mod first;
+mod ids;
+mod row;
+mod values;
+
+pub use doc::{Doc, OwnRows};
+pub use first::{
+    DIGEST_TEXT, FirstRefusal, OBJECT, SIGNED_INFO, VALUE_TEXT, first_form_is_exact, read_first,
+};
+pub use ids::IdAnswer;
+pub use row::{Kind, Row, RowList};

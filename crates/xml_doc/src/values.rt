@@ -1,0 +1,47 @@
+//! String values.
+ghost use Rattle.std.specs.Prelude.{◌≡◌, ◌<◌, length, map};
+ghost use Rattle.std.specs.List.{flat_map};
+ghost use Rattle.sig_base.specs.Puts.{Puts};
+ghost use Rattle.xml_doc.specs.Rows.{row_of};
+ghost use Rattle.xml_doc.specs.Values.{string_value, text_of};
+
+use crate::doc::Doc;
+use crate::row::{Kind, Row};
+use sig_base::{OctetSink, Put};
+
+impl<'a> Doc<'a> {
+    /// Writes the string value of row `i` (XPath 1.0 §5): of the root or an element the texts below it, joined in
+    /// document order, and of another row its value. `Refused` leaves a prefix of it written.
+    pub fn string_value_into<S: OctetSink>(&self, i: u32, sink: &mut S) -> Put
+        requires { i < length self.now }
+        ensures { Puts S.stands_for S.refusals S.makes sink.old sink.new (string_value self.now i) result }
+    {
+        let row = self.at(i);
+        match row.kind {
+            Kind::Root | Kind::Element => put_texts(self.subtree(i), sink),
+            _ => sink.put(row.value.as_bytes()),
+        }
+    }
+}
+
+/// Writes the characters of a text, and nothing of another row.
+fn put_text<S: OctetSink>(row: &Row<'_>, sink: &mut S) -> Put
+    ensures { Puts S.stands_for S.refusals S.makes sink.old sink.new (text_of (row_of row.now)) result }
+{
+    match row.kind {
+        Kind::Text => sink.put(row.value.as_bytes()),
+        _ => Put::Done,
+    }
+}
+
+/// Writes the texts among these rows, in their order.
+fn put_texts<S: OctetSink>(rows: &[Row<'_>], sink: &mut S) -> Put
+    ensures { Puts S.stands_for S.refusals S.makes sink.old sink.new (flat_map text_of (map row_of rows.now)) result }
+{
+    for row in rows {
+        if let Put::Refused = put_text(row, sink) {
+            return Put::Refused;
+        }
+    }
+    Put::Done
+}
