@@ -1,0 +1,9 @@
+pub mod CanonLemmas
+pub mod ChoiceLemmas
+pub mod EscapesLemmas
+pub mod ProgressLemmas
+pub mod QuietLemmas
+pub mod QuietRows
+pub mod RowTree
+pub mod TreeLemmas
+pub mod WorkedExamples

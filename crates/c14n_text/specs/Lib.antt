@@ -1,0 +1,11 @@
+pub mod Escapes
+pub mod Pieces
+pub mod Tree
+pub mod Walk
+pub mod Rows
+pub mod Namespaces
+pub mod Attributes
+pub mod Choice
+pub mod Canon
+pub mod Progress
+pub mod Quiet
