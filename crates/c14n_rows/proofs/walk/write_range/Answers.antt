@@ -1,0 +1,61 @@
+use Rattle.std.proofs.Common.{◌≡◌, ℕ, ◌<◌, ◌≤◌, length, true, sym, arith}
+use Rattle.node_sets.specs.View.{in_view}
+use Rattle.c14n_rows.specs.Rules.{rule_of}
+use Rattle.c14n_text.specs.Rows.{is_child}
+use Rattle.c14n_text.specs.Canon.{opening, closing}
+use Rattle.c14n_text.proofs.ProgressLemmas.{begins_at, opens, passes, stops_opening, next_is_below}
+use Rattle.c14n_text.proofs.QuietRows.{no_opening, no_closing}
+use Rattle.c14n_rows.proofs.Chains.{parent_there}
+use Rattle.c14n_rows.proofs.walk.write_range.Goals as goal
+use Rattle.c14n_rows.proofs.walk.write_range.Goals.{then-is_child+in_default-put_opening, else-is_child}
+
+pub loop-next-init : goal.loop-next-init
+loop-next-init g c =
+    let rows = c.args.doc.now in let set = in_view c.args.set in let rule = rule_of c.args.method in
+    let w = c.rows-rows.ensures.shaped in
+    let before = c.requires.quiet_before in
+    let there : c.args.start < length rows = let order = c.requires.ordered in let within = c.requires.within in omega arith in
+    rw c.above-open.ensures (record {
+      here = parent_there rows w c.args.start there;
+      walked = begins_at rows w (opening rows set rule c.args.comments) (closing rows set) _ _ _ c.args.sink.now c.args.start c.requires.behind_root there
+          (λ (x : ℕ) (lt : x < c.args.start). no_opening rows w set rule c.args.comments x (before x lt)) (λ (x : ℕ) (lt : x < c.args.start). no_closing rows w set rule c.args.comments x (before x lt));
+    })
+
+pub returns-in-Refused : goal.returns-in-Refused
+returns-in-Refused g c =
+    c.in-Refused.ensures.walked c.args.sink.now (opening c.args.doc.now (in_view c.args.set) (rule_of c.args.method) c.args.comments) c.loop-next.invariant.walked
+
+pub returns-in-Refused-put_opening : goal.returns-in-Refused-put_opening
+returns-in-Refused-put_opening g c =
+    let rows = c.args.doc.now in let set = in_view c.args.set in let o = opening rows set (rule_of c.args.method) c.args.comments in let next = c.loop-next.next in
+    let w = c.rows-rows.ensures.shaped in
+    let closed = c.in_default.ensures.walked c.args.sink.now o c.loop-next.invariant.walked in
+    let lt : next < length rows = omega (arith, c.loop-next-test.true, c.requires.within) in
+    let below = next_is_below rows w o (closing rows set) _ _ _ _ next closed.0 lt closed.1 in
+    let is_counted : is_child rows next ≡ true = sym c.if-is_child.ensures in
+    stops_opening rows w o (closing rows set) _ _ _ _ next closed.0 lt below is_counted c.in-Refused-put_opening.ensures.by
+
+pub loop-next-preserved : goal.loop-next-preserved
+loop-next-preserved g c =
+    let rows = c.args.doc.now in let set = in_view c.args.set in let o = opening rows set (rule_of c.args.method) c.args.comments in let next = c.loop-next.next in
+    let w = c.rows-rows.ensures.shaped in
+    let closed = c.in_default.ensures.walked c.args.sink.now o c.loop-next.invariant.walked in
+    let lt : next < length rows = omega (arith, c.loop-next-test.true, c.requires.within) in
+    let below = next_is_below rows w o (closing rows set) _ _ _ _ next closed.0 lt closed.1 in
+    elim c.if-is_child.branch [
+      | then-is_child+in_default-put_opening b ↦
+          rw (b.sink-is, b.open-is) (record { here = lt; walked = opens rows w o (closing rows set) _ _ _ _ next closed.0 lt below (sym b.if-is_child.ensures) b.in_default-put_opening.ensures.by })
+      | else-is_child b ↦
+          rw (b.sink-is, b.open-is) (record { here = let begun = closed.0.stands.begun in omega arith; walked = passes rows w o (closing rows set) _ _ _ _ next closed.0 lt below (sym b.if-is_child.ensures) })
+    ]
+
+pub returns : goal.returns
+returns g c =
+    let rows = c.args.doc.now in let set = in_view c.args.set in let rule = rule_of c.args.method in let o = opening rows set rule c.args.comments in
+    let w = c.rows-rows.ensures.shaped in
+    let behind = c.requires.quiet_behind in
+    let at_end : c.loop-next.next ≡ c.args.until = let order = c.requires.ordered in omega (arith, c.loop-next-test.false, c.loop-next.auto.next-end) in
+    let p = c.loop-next.invariant.walked in
+    c.close_all.ensures.walked c.args.sink.now o
+    (λ (x : ℕ) (le : c.args.until ≤ x). no_opening rows w set rule c.args.comments x (behind x le)) (λ (x : ℕ) (le : c.args.until ≤ x). no_closing rows w set rule c.args.comments x (behind x le))
+    (rw at_end at p)

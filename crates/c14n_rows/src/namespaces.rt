@@ -1,0 +1,327 @@
+//! The namespace octets of an element (Canonical XML 1.0 §2.3; Exclusive XML Canonicalization 1.0 §3).
+ghost use Rattle.std.specs.Prelude.{◌≡◌, ◌<◌, ◌≤◌, ◌+◌, ◌-◌, length, map, encode_utf8_all, IfSome};
+ghost use Rattle.std.specs.List.{list_any, flat_map, range_with_len};
+ghost use Rattle.std.specs.Str.{bytes_eq};
+ghost use Rattle.sig_base.specs.Puts.{Puts};
+ghost use Rattle.node_sets.specs.View.{in_view};
+ghost use Rattle.c14n_rows.specs.Rules.{rule_of};
+ghost use Rattle.c14n_text.specs.Namespaces.{follows_inclusive_rule, has_prefix, visibly_utilizes, renders, nearest, binds, has_binding, is_default, has_default, is_written, undeclares, declaration, row_declaration, undeclaration, namespace_octets};
+
+use c14n_text::Piece::{Plain, Value};
+use c14n_text::put_all;
+use node_sets::SetView;
+use sig_base::{OctetSink, PrefixList, Put};
+use xml_doc::Doc;
+
+/// The rule of a canonical form.
+#[derive(Clone, Copy)]
+pub enum Method<'p> {
+    /// Canonical XML 1.0.
+    Canonical,
+    /// Exclusive XML Canonicalization 1.0, with its PrefixList.
+    Exclusive(&'p PrefixList),
+}
+
+/// Whether a PrefixList has this name.
+fn is_listed(prefixes: &PrefixList, name: &str) -> bool
+    ensures { result ≡ list_any (bytes_eq name.now) (map encode_utf8_all prefixes.now) }
+{
+    for k in 0..prefixes.len() {
+        match prefixes.get(k) {
+            Some(prefix) => {
+                if name == prefix.as_str() {
+                    return true;
+                }
+            }
+            None => return false,
+        }
+    }
+    false
+}
+
+/// Whether a prefix follows the rule of Canonical XML.
+pub(crate) fn follows_inclusive_rule(method: Method<'_>, prefix: &str) -> bool
+    ensures { result ≡ follows_inclusive_rule (rule_of method.entry) prefix.now }
+{
+    match method {
+        Method::Canonical => true,
+        Method::Exclusive(prefixes) => {
+            if prefix.is_empty() {
+                is_listed(prefixes, "#default")
+            } else {
+                is_listed(prefixes, prefix)
+            }
+        }
+    }
+}
+
+/// Whether an attribute row is in the set and has this prefix.
+fn has_prefix(doc: &Doc<'_>, set: SetView<'_>, prefix: &str, a: u32) -> bool
+    requires { a < length doc.now }
+    ensures { result ≡ has_prefix doc.now (in_view set.entry) prefix.now a }
+{
+    set.contains(a) && !doc.prefix_text(a).is_empty() && doc.prefix_text(a) == prefix
+}
+
+/// Whether one of the attribute rows from `from` to before `until` is in the set and has this prefix.
+fn any_has_prefix(doc: &Doc<'_>, set: SetView<'_>, prefix: &str, from: u32, until: u32) -> bool
+    requires { until ≤ length doc.now }
+    ensures { result ≡ list_any (has_prefix doc.now (in_view set.entry) prefix.now) (range_with_len from (until - from)) }
+{
+    for a in from..until {
+        if has_prefix(doc, set, prefix, a) {
+            return true;
+        }
+    }
+    false
+}
+
+/// Whether an element visibly utilizes a prefix (Exclusive XML Canonicalization 1.0 §1.1).
+fn visibly_utilizes(doc: &Doc<'_>, set: SetView<'_>, e: u32, prefix: &str) -> bool
+    requires { e < length doc.now }
+    ensures { result ≡ visibly_utilizes doc.now (in_view set.entry) e prefix.now }
+{
+    if doc.prefix_text(e) == prefix {
+        return true;
+    }
+    let own = doc.own_rows(e);
+    any_has_prefix(doc, set, prefix, own.first_attribute, own.first_child)
+}
+
+/// Whether an element is in the set and counts for a prefix: where the prefix doesn't follow the inclusive rule, by
+/// visibly utilizing it.
+fn renders(doc: &Doc<'_>, set: SetView<'_>, method: Method<'_>, prefix: &str, e: u32) -> bool
+    requires { e < length doc.now }
+    ensures { result ≡ renders doc.now (in_view set.entry) (rule_of method.entry) prefix.now e }
+{
+    set.contains(e)
+        && (follows_inclusive_rule(method, prefix) || visibly_utilizes(doc, set, e, prefix))
+}
+
+/// The nearest such element above a row.
+fn nearest(doc: &Doc<'_>, set: SetView<'_>, method: Method<'_>, prefix: &str, x: u32) -> Option<u32>
+    requires here { x < length doc.now }
+    ensures value { result ≡ nearest doc.now (in_view set.entry) (rule_of method.entry) prefix.now x }
+    ensures there { IfSome result (λ e. e < length doc.now) }
+{
+    let _rows = doc.rows();
+    let mut up = doc.above(x);
+    while up != 0 {
+        if renders(doc, set, method, prefix, up) {
+            return Some(up);
+        }
+        up = doc.above(up);
+    }
+    None
+}
+
+/// Whether a namespace row is in the set and binds this prefix to this name.
+fn binds(doc: &Doc<'_>, set: SetView<'_>, prefix: &str, name: &str, z: u32) -> bool
+    requires { z < length doc.now }
+    ensures { result ≡ binds doc.now (in_view set.entry) prefix.now name.now z }
+{
+    set.contains(z) && doc.local_name(z) == prefix && doc.value(z) == name
+}
+
+/// Whether one of the namespace rows from `from` to before `until` does.
+fn any_binds(
+    doc: &Doc<'_>,
+    set: SetView<'_>,
+    prefix: &str,
+    name: &str,
+    from: u32,
+    until: u32,
+) -> bool
+    requires { until ≤ length doc.now }
+    ensures { result ≡ list_any (binds doc.now (in_view set.entry) prefix.now name.now) (range_with_len from (until - from)) }
+{
+    for z in from..until {
+        if binds(doc, set, prefix, name, z) {
+            return true;
+        }
+    }
+    false
+}
+
+/// Whether an element has such a namespace row.
+fn has_binding(
+    doc: &Doc<'_>,
+    set: SetView<'_>,
+    prefix: &str,
+    name: &str,
+    element: Option<u32>,
+) -> bool
+    requires { IfSome element (λ e. e < length doc.now) }
+    ensures { result ≡ has_binding doc.now (in_view set.entry) prefix.now name.now element }
+{
+    match element {
+        Some(e) => {
+            let own = doc.own_rows(e);
+            any_binds(doc, set, prefix, name, e + 1, own.first_attribute)
+        }
+        None => false,
+    }
+}
+
+/// Whether a namespace row is in the set and is that of the default.
+fn is_default(doc: &Doc<'_>, set: SetView<'_>, z: u32) -> bool
+    requires { z < length doc.now }
+    ensures { result ≡ is_default doc.now (in_view set.entry) z }
+{
+    set.contains(z) && doc.local_name(z).is_empty()
+}
+
+/// Whether one of the namespace rows from `from` to before `until` is.
+fn any_default(doc: &Doc<'_>, set: SetView<'_>, from: u32, until: u32) -> bool
+    requires { until ≤ length doc.now }
+    ensures { result ≡ list_any (is_default doc.now (in_view set.entry)) (range_with_len from (until - from)) }
+{
+    for z in from..until {
+        if is_default(doc, set, z) {
+            return true;
+        }
+    }
+    false
+}
+
+/// Whether an element has a default namespace row in the set.
+fn has_default(doc: &Doc<'_>, set: SetView<'_>, element: Option<u32>) -> bool
+    requires { IfSome element (λ e. e < length doc.now) }
+    ensures { result ≡ has_default doc.now (in_view set.entry) element }
+{
+    match element {
+        Some(e) => {
+            let own = doc.own_rows(e);
+            any_default(doc, set, e + 1, own.first_attribute)
+        }
+        None => false,
+    }
+}
+
+/// Whether a namespace row of an element is written.
+fn is_written(doc: &Doc<'_>, set: SetView<'_>, method: Method<'_>, x: u32, y: u32) -> bool
+    requires element { x < length doc.now }
+    requires row { y < length doc.now }
+    ensures { result ≡ is_written doc.now (in_view set.entry) (rule_of method.entry) x y }
+{
+    let prefix = doc.local_name(y);
+    set.contains(y)
+        && prefix != "xml"
+        && (follows_inclusive_rule(method, prefix)
+            || (set.contains(x) && visibly_utilizes(doc, set, x, prefix)))
+        && !has_binding(
+            doc,
+            set,
+            prefix,
+            doc.value(y),
+            nearest(doc, set, method, prefix, x),
+        )
+}
+
+/// Whether an element writes `xmlns=""`.
+fn undeclares(doc: &Doc<'_>, set: SetView<'_>, method: Method<'_>, x: u32) -> bool
+    requires element { x < length doc.now }
+    ensures { result ≡ undeclares doc.now (in_view set.entry) (rule_of method.entry) x }
+{
+    renders(doc, set, method, "", x)
+        && !has_default(doc, set, Some(x))
+        && has_default(doc, set, nearest(doc, set, method, "", x))
+}
+
+/// Writes a namespace declaration.
+fn put_declaration<'a, S: OctetSink>(prefix: &'a str, name: &'a str, sink: &mut S) -> Put
+    ensures { Puts S.stands_for S.refusals S.makes sink.old sink.new (declaration prefix.now name.now) result }
+{
+    if prefix.is_empty() {
+        put_all(&[Plain(" xmlns=\""), Value(name), Plain("\"")], sink)
+    } else {
+        put_all(
+            &[
+                Plain(" xmlns:"),
+                Plain(prefix),
+                Plain("=\""),
+                Value(name),
+                Plain("\""),
+            ],
+            sink,
+        )
+    }
+}
+
+/// Writes a namespace row of an element where it is written.
+fn put_row<S: OctetSink>(
+    doc: &Doc<'_>,
+    set: SetView<'_>,
+    method: Method<'_>,
+    x: u32,
+    y: u32,
+    sink: &mut S,
+) -> Put
+    requires element { x < length doc.now }
+    requires row { y < length doc.now }
+    ensures { Puts S.stands_for S.refusals S.makes sink.old sink.new (row_declaration doc.now (in_view set.entry) (rule_of method.entry) x y) result }
+{
+    if is_written(doc, set, method, x, y) {
+        put_declaration(doc.local_name(y), doc.value(y), sink)
+    } else {
+        Put::Done
+    }
+}
+
+/// Writes `xmlns=""` where the element does.
+fn put_undeclaration<S: OctetSink>(
+    doc: &Doc<'_>,
+    set: SetView<'_>,
+    method: Method<'_>,
+    x: u32,
+    sink: &mut S,
+) -> Put
+    requires element { x < length doc.now }
+    ensures { Puts S.stands_for S.refusals S.makes sink.old sink.new (undeclaration doc.now (in_view set.entry) (rule_of method.entry) x) result }
+{
+    if undeclares(doc, set, method, x) {
+        put_all(&[Plain(" xmlns=\"\"")], sink)
+    } else {
+        Put::Done
+    }
+}
+
+/// Writes those of the namespace rows of an element from `from` to before `until` that are written.
+fn put_rows<S: OctetSink>(
+    doc: &Doc<'_>,
+    set: SetView<'_>,
+    method: Method<'_>,
+    x: u32,
+    from: u32,
+    until: u32,
+    sink: &mut S,
+) -> Put
+    requires element { x < length doc.now }
+    requires rows { until ≤ length doc.now }
+    ensures { Puts S.stands_for S.refusals S.makes sink.old sink.new (flat_map (row_declaration doc.now (in_view set.entry) (rule_of method.entry) x) (range_with_len from (until - from))) result }
+{
+    for y in from..until {
+        if let Put::Refused = put_row(doc, set, method, x, y, sink) {
+            return Put::Refused;
+        }
+    }
+    Put::Done
+}
+
+/// Writes the namespace octets of an element.
+pub(crate) fn put_namespaces<S: OctetSink>(
+    doc: &Doc<'_>,
+    set: SetView<'_>,
+    method: Method<'_>,
+    x: u32,
+    sink: &mut S,
+) -> Put
+    requires element { x < length doc.now }
+    ensures { Puts S.stands_for S.refusals S.makes sink.old sink.new (namespace_octets doc.now (in_view set.entry) (rule_of method.entry) x) result }
+{
+    let own = doc.own_rows(x);
+    if let Put::Refused = put_undeclaration(doc, set, method, x, sink) {
+        return Put::Refused;
+    }
+    put_rows(doc, set, method, x, x + 1, own.first_attribute, sink)
+}
