@@ -1,0 +1,14 @@
+//! What a validation comes to.
+
+use sig_base::{Numbers, Views};
+
+/// What core validation comes to (XML Signature 1.1 §3.2).
+#[derive(Drop)]
+pub enum Report {
+    /// Signature validation and reference validation hold. These are the views whose digests were compared.
+    Valid(Views),
+    /// Signature validation fails: the signature value isn't the HMAC over the canonical SignedInfo.
+    SignatureDiffers,
+    /// Reference validation fails: the numbers, from 1, of all References whose digest isn't the DigestValue.
+    DigestsDiffer(Numbers),
+}
