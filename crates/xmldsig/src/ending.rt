@@ -1,0 +1,73 @@
+//! How a run ends: its status, its refusals, and what it came to before anything is printed.
+ghost use Rattle.std.specs.Prelude.{◌≡◌};
+ghost use Rattle.xmldsig.specs.Status.{exit_code};
+
+use core_validate::Report;
+use sig_base::Octets;
+
+/// How a run ended.
+#[derive(Clone, Copy, Debug, PartialEq, Eq)]
+pub enum Status {
+    /// The command did its work.
+    Done,
+    /// Signature validation and reference validation hold.
+    Valid,
+    /// One of the two fails.
+    Invalid,
+    /// There is no answer: the document, the keys or a reference was refused.
+    Refused,
+    /// The words name no job.
+    Usage,
+    /// The folder failed.
+    ReadFault,
+    /// Standard output or standard error failed.
+    WriteFault,
+    /// A keeper of views failed.
+    ViewFault,
+    /// Memory that was asked for was not given.
+    Memory,
+}
+
+impl Status {
+    /// The exit status of the program, 0 to 7.
+    pub fn code(&self) -> u8
+        ensures { result ≡ exit_code self.now }
+    {
+        match self {
+            Status::Done | Status::Valid => 0,
+            Status::Invalid => 1,
+            Status::Refused => 2,
+            Status::Usage => 3,
+            Status::ReadFault => 4,
+            Status::WriteFault => 5,
+            Status::ViewFault => 6,
+            Status::Memory => 7,
+        }
+    }
+}
+
+/// Why a job has no report.
+#[derive(Clone, Copy, Debug, PartialEq, Eq)]
+pub enum Refusal {
+    /// The folder has no document of that name.
+    NoDocument,
+    /// The folder has no key file of that name.
+    NoKeys,
+    /// The document or the key file is of a form that this version doesn't read.
+    NotBuilt,
+}
+
+/// What a run came to, before anything is printed.
+#[derive(Drop)]
+pub(crate) enum Ending {
+    /// The words name no job.
+    Usage,
+    /// The folder failed.
+    ReadFault,
+    /// Memory that was asked for was not given.
+    Memory,
+    /// The job is refused.
+    Refused(Refusal),
+    /// The validation gave a report, of which this is the text.
+    Reported { report: Report, text: Octets },
+}

@@ -1,0 +1,73 @@
+//! The text of a report.
+ghost use Rattle.std.specs.Prelude.{◌≡◌, ◌++◌, ◌+◌, OnOk, IfOk, codes, string_bytes};
+ghost use Rattle.std.specs.List.{flat_map};
+ghost use Rattle.xmldsig.specs.Texts.{number_word, reference_line, reference_lines, report_text};
+
+use core_validate::Report;
+use sig_base::{NoMemory, Numbers, Octets, Views};
+use std::alloc::Global;
+
+/// The line of the view of reference number i.
+fn reference_line(alloc: Global, i: u64, octets: u64) -> Result<String, NoMemory>
+    ensures { IfOk result (λ line. string_bytes line ≡ reference_line i octets) }
+{
+    Ok(format!(in alloc; "reference {} octets {}\n", i, octets)?)
+}
+
+/// A number behind a space.
+fn number_word(alloc: Global, i: u64) -> Result<String, NoMemory>
+    ensures { IfOk result (λ word. string_bytes word ≡ number_word i) }
+{
+    Ok(format!(in alloc; " {}", i)?)
+}
+
+/// Writes a line for each view.
+fn push_references(alloc: Global, lengths: &Numbers, text: &mut String) -> Result<(), NoMemory>
+    ensures { OnOk result (string_bytes text.new ≡ string_bytes text.old ++ reference_lines 1 lengths.now) }
+{
+    for (place, octets) in lengths.as_slice().iter().enumerate() {
+        text.push_str(&reference_line(alloc, place as u64 + 1, *octets)?)?;
+    }
+    Ok(())
+}
+
+/// Writes a word for each number.
+fn push_numbers(alloc: Global, numbers: &Numbers, text: &mut String) -> Result<(), NoMemory>
+    ensures { OnOk result (string_bytes text.new ≡ string_bytes text.old ++ flat_map number_word numbers.now) }
+{
+    for number in numbers.as_slice() {
+        text.push_str(&number_word(alloc, *number)?)?;
+    }
+    Ok(())
+}
+
+/// The text of views.
+fn valid_text(alloc: Global, views: &Views) -> Result<String, NoMemory>
+    ensures { IfOk result (λ text. string_bytes text ≡ codes "valid\n" ++ reference_lines 1 views.now.lengths) }
+{
+    let mut text = String::from_str(alloc, "valid\n")?;
+    push_references(alloc, &views.lengths, &mut text)?;
+    Ok(text)
+}
+
+/// The text of digests that differ.
+fn digests_text(alloc: Global, numbers: &Numbers) -> Result<String, NoMemory>
+    ensures { IfOk result (λ text. string_bytes text ≡ codes "invalid digests" ++ flat_map number_word numbers.now ++ codes "\n") }
+{
+    let mut text = String::from_str(alloc, "invalid digests")?;
+    push_numbers(alloc, numbers, &mut text)?;
+    text.push_str("\n")?;
+    Ok(text)
+}
+
+/// The text of a report, as it is printed on standard output.
+pub(crate) fn text_of(alloc: Global, report: &Report) -> Result<Octets, NoMemory>
+    ensures { IfOk result (λ text. text ≡ report_text report.now) }
+{
+    let text = match report {
+        Report::Valid(views) => valid_text(alloc, views)?,
+        Report::SignatureDiffers => String::from_str(alloc, "invalid signature\n")?,
+        Report::DigestsDiffer(numbers) => digests_text(alloc, numbers)?,
+    };
+    Ok(Octets::from_vec(text.into_bytes()))
+}

@@ -1,0 +1,209 @@
+//! Whole runs over the forms in memory.
+
+use crate::ending::Status;
+use crate::top::run;
+use sig_base::NoMemory;
+use sig_outside::{MemFolder, MemKeeper, MemSink};
+use std::alloc::Global;
+use std::test::Fail;
+
+const DIGEST: &str = "KPGpYHC4zFc1Lx40u3xQYEP5QdfHx+102bWKBRRWYzE=";
+
+const VALUE: &str = "00GnRGdIVNGKRGKgqCbmGfLNkHv09Rp5nkK/V9znGkM=";
+/// The signature value with one bit changed.
+const OTHER_VALUE: &str = "00GnRGdIVNGKRGKgqCbmGfLNkHv09Rp5nkK/V9znGkI=";
+
+const KEYS: &str = "4a656665 k1\n";
+
+const USAGE: &str = "usage: xmldsig validate|sign|canon|template|selftest\n";
+
+/// One run: what the folder holds and which parts fail, and what has to come of it.
+#[derive(Clone, Copy)]
+struct Case {
+    name: &'static str,
+    uri: &'static str,
+    value: &'static str,
+    content: &'static str,
+    has_document: bool,
+    keys: Option<&'static str>,
+    command: &'static str,
+    folder_fails: bool,
+    out_fails: bool,
+    status: Status,
+    out: &'static str,
+    err: &'static str,
+    asked: usize,
+}
+
+const VALID: Case = Case {
+    name: "valid",
+    uri: "obj",
+    value: VALUE,
+    content: "Hello",
+    has_document: true,
+    keys: Some(KEYS),
+    command: "validate",
+    folder_fails: false,
+    out_fails: false,
+    status: Status::Valid,
+    out: "valid\nreference 1 octets 74\n",
+    err: "",
+    asked: 2,
+};
+
+fn document(alloc: Global, case: &Case) -> Result<String, NoMemory> {
+    let head =
+        "<Signature xmlns=\"http://www.w3.org/2000/09/xmldsig#\"><SignedInfo><CanonicalizationMethod Algorithm=\"http://www.w3.org/TR/2001/REC-xml-c14n-20010315\"></CanonicalizationMethod><SignatureMethod Algorithm=\"http://www.w3.org/2001/04/xmldsig-more#hmac-sha256\"></SignatureMethod><Reference URI=\"#";
+    let method =
+        "\"><DigestMethod Algorithm=\"http://www.w3.org/2001/04/xmlenc#sha256\"></DigestMethod><DigestValue>";
+    let value = "</DigestValue></Reference></SignedInfo><SignatureValue>";
+    let object = "</SignatureValue><Object Id=\"obj\">";
+    let mut text = String::from_str(alloc, head)?;
+    for piece in [
+        case.uri,
+        method,
+        DIGEST,
+        value,
+        case.value,
+        object,
+        case.content,
+        "</Object></Signature>",
+    ] {
+        text.push_str(piece)?;
+    }
+    Ok(text)
+}
+
+fn folder_of(alloc: Global, case: &Case) -> Result<MemFolder, NoMemory> {
+    let mut folder = MemFolder::new(alloc);
+    if case.has_document {
+        folder.add("d.xml", document(alloc, case)?.as_bytes())?;
+    }
+    if let Some(keys) = case.keys {
+        folder.add("k.txt", keys.as_bytes())?;
+    }
+    if case.folder_fails {
+        folder.fail_call(0)?;
+    }
+    Ok(folder)
+}
+
+fn words_of(alloc: Global, command: &str) -> Result<Vec<String>, NoMemory> {
+    let mut words = Vec::new(alloc);
+    for word in [command, "d.xml", "--keys", "k.txt"] {
+        words.push(String::from_str(alloc, word)?)?;
+    }
+    Ok(words)
+}
+
+#[test]
+fn runs(rt: HostRuntime) -> Result<(), Fail> {
+    let alloc = rt.alloc();
+    let cases = [
+        VALID,
+        Case {
+            name: "content changed",
+            content: "Hallo",
+            status: Status::Invalid,
+            out: "invalid digests 1\n",
+            ..VALID
+        },
+        Case {
+            name: "one bit of the value changed",
+            value: OTHER_VALUE,
+            status: Status::Invalid,
+            out: "invalid signature\n",
+            ..VALID
+        },
+        Case {
+            name: "another key",
+            keys: Some("00 k1\n"),
+            status: Status::Invalid,
+            out: "invalid signature\n",
+            ..VALID
+        },
+        Case {
+            name: "no document",
+            has_document: false,
+            status: Status::Refused,
+            out: "",
+            err: "refused NoDocument\n",
+            asked: 1,
+            ..VALID
+        },
+        Case {
+            name: "no key file",
+            keys: None,
+            status: Status::Refused,
+            out: "",
+            err: "refused NoKeys\n",
+            ..VALID
+        },
+        Case {
+            name: "a key file of another form",
+            keys: Some("4a656665 k1"),
+            status: Status::Refused,
+            out: "",
+            err: "refused NotBuilt\n",
+            ..VALID
+        },
+        Case {
+            name: "another URI than the ID",
+            uri: "x",
+            status: Status::Refused,
+            out: "",
+            err: "refused NotBuilt\n",
+            ..VALID
+        },
+        Case {
+            name: "no such command",
+            command: "check",
+            status: Status::Usage,
+            out: "",
+            err: USAGE,
+            asked: 0,
+            ..VALID
+        },
+        Case {
+            name: "the folder fails",
+            folder_fails: true,
+            status: Status::ReadFault,
+            out: "",
+            err: "fault read\n",
+            asked: 1,
+            ..VALID
+        },
+        Case {
+            name: "out fails",
+            out_fails: true,
+            status: Status::WriteFault,
+            out: "",
+            err: "fault write\n",
+            ..VALID
+        },
+    ];
+    for case in &cases {
+        let mut folder = folder_of(alloc, case)?;
+        let words = words_of(alloc, case.command)?;
+        let mut keepers: Vec<MemKeeper> = Vec::new(alloc);
+        let mut out = MemSink::with_room(alloc, 100)?;
+        let mut err = MemSink::with_room(alloc, 100)?;
+        if case.out_fails {
+            out.fail_call(0)?;
+        }
+        let status = run(alloc, &words, &mut folder, &mut keepers, &mut out, &mut err);
+        assert_eq!(rt; status, case.status, "{}", case.name);
+        assert_eq!(rt; out.bytes(), case.out.as_bytes(), "{}", case.name);
+        assert_eq!(rt; err.bytes(), case.err.as_bytes(), "{}", case.name);
+        for (place, name) in ["d.xml", "k.txt"].iter().enumerate() {
+            let wanted = if place < case.asked {
+                Some(*name)
+            } else {
+                None
+            };
+            assert_eq!(rt; folder.asked_name(place), wanted, "{}", case.name);
+        }
+        assert!(rt; folder.asked_name(2).is_none(), "{}", case.name);
+    }
+    Ok(())
+}
