@@ -1,0 +1,12 @@
+pub mod Depth
+pub mod Documents
+pub mod InScope
+pub mod Keys
+pub mod Limits
+pub mod Outcome
+pub mod Resolve
+pub mod Rows
+pub mod Seen
+pub mod SeenRows
+pub mod Steps
+pub mod Table

@@ -1,0 +1,140 @@
+//! A whole document.
+ghost use Rattle.std.specs.Prelude.{◌≡◌, ◌+◌, ◌^◌, ◌<◌, ◌++◌, ◌↔◌, List, [], ◌∷◌, length, IfOk, OnOk, IsErrOf, Ok, true, false};
+ghost use Rattle.std.specs.Str.{chars};
+ghost use Rattle.std.specs.String.{string_bytes};
+ghost use Rattle.xml_syntax.specs.Characters.{Placed, characters};
+ghost use Rattle.xml_syntax.specs.Tree.{Content, events};
+ghost use Rattle.xml_syntax.specs.Tree as tree;
+ghost use Rattle.xml_syntax.specs.Grammar.{SpellsDocument};
+ghost use Rattle.xml_syntax.specs.Reading.{behind_tag, element_of};
+ghost use Rattle.xml_syntax.specs.Outcome.{is_other_encoding, names_other_encoding, has_doc_type, syntax_outcome, Answers, IsTold, NamesOtherEncoding, HasDocType, SpellsNothing};
+ghost use Rattle.xml_syntax.specs.Seen.{seen_item, seen_tag, seen_all, seen_open, seen_encoding, AddsContent};
+
+use crate::content::read_open;
+use crate::cursor::Cursor;
+use crate::declaration::declared;
+use crate::event::{Event, Tag};
+use crate::fault::SyntaxFault;
+use crate::item::Item;
+use crate::prolog::misc;
+use crate::tag::tag;
+use std::alloc::{AllocError, Global};
+
+// The stack of one open element.
+fn opened(alloc: Global, tag: &Tag) -> Result<Vec<String>, AllocError>
+    ensures { IfOk result (λ v. seen_open v.items ≡ string_bytes tag.now.name ∷ []) }
+{
+    let mut stack = Vec::new(alloc);
+    stack.push(tag.name.clone()?)?;
+    Ok(stack)
+}
+
+// Adds the begin of an element.
+fn add_start(events: &mut Vec<Event>, tag: Tag) -> Result<(), AllocError>
+    ensures { OnOk result (seen_all events.new.items ≡ seen_all events.old.items ++ tree.Start (seen_tag tag) ∷ []) }
+{
+    events.push(Event::Start(tag))?;
+    Ok(())
+}
+
+// An element behind its first tag.
+#[tactic(auto, unfolding(crate::specs::Reading::behind_tag))]
+fn behind_tag(
+    alloc: Global,
+    cursor: &mut Cursor<'_>,
+    events: &mut Vec<Event>,
+    item: Item,
+) -> Result<(), SyntaxFault>
+    ensures { AddsContent result (seen_all events.old.items) (seen_all events.new.items) cursor.new (behind_tag (seen_item item) cursor.old) }
+{
+    match item {
+        Item::Empty(tag, until) => {
+            events.push(Event::Start(tag))?;
+            events.push(Event::End(until))?;
+            Ok(())
+        }
+        Item::Start(tag) => {
+            let mut stack = opened(alloc, &tag)?;
+            add_start(events, tag)?;
+            read_open(alloc, cursor, &mut stack, events)
+        }
+        _ => Err(SyntaxFault::NotWellFormed),
+    }
+}
+
+// An element.
+#[tactic(auto, unfolding(crate::specs::Reading::element_of))]
+fn element(
+    alloc: Global,
+    cursor: &mut Cursor<'_>,
+    events: &mut Vec<Event>,
+) -> Result<(), SyntaxFault>
+    ensures { AddsContent result (seen_all events.old.items) (seen_all events.new.items) cursor.new (element_of cursor.old) }
+{
+    let item = tag(alloc, cursor)?;
+    behind_tag(alloc, cursor, events, item)
+}
+
+// Whether the name is one of another encoding than UTF-8.
+fn is_other_encoding(name: &Option<String>) -> bool
+    ensures { result ≡ is_other_encoding (seen_encoding name.now) }
+{
+    match name {
+        None => false,
+        Some(name) => !name.as_str().eq_ignore_ascii_case("utf-8"),
+    }
+}
+
+// A whole document.
+fn document(alloc: Global, cursor: &mut Cursor<'_>) -> Result<Vec<Event>, SyntaxFault>
+    ensures { Answers result (syntax_outcome cursor.old) }
+{
+    let encoding = declared(alloc, cursor)?;
+    if is_other_encoding(&encoding) {
+        return Err(SyntaxFault::Encoding);
+    }
+    let mut events = Vec::new(alloc);
+    misc(alloc, cursor, &mut events)?;
+    if cursor.begins_with(&['<', '!', 'D', 'O', 'C', 'T', 'Y', 'P', 'E']) {
+        return Err(SyntaxFault::DocType);
+    }
+    element(alloc, cursor, &mut events)?;
+    misc(alloc, cursor, &mut events)?;
+    if !cursor.is_empty() {
+        return Err(SyntaxFault::NotWellFormed);
+    }
+    Ok(events)
+}
+
+/// The events of the one tree that a document spells, in document order.
+///
+/// The text is the document behind its byte order mark, if it has one, and `at` is the offset of its first octet: 0, or 3
+/// behind a mark. The document has fewer than 2^32 octets.
+///
+/// # Errors
+///
+/// The first of `Encoding`, `DocType` and `NotWellFormed` that holds, or `Memory` where memory runs out.
+pub fn read_events(alloc: Global, text: &str, at: u32) -> Result<Vec<Event>, SyntaxFault>
+    requires { at + length text.now < 2 ^ 32 }
+    ensures exact { Answers result (syntax_outcome (characters at (chars text.now))) }
+    ensures spelled { IfOk result (λ v. IsTold (characters at (chars text.now)) (seen_all v.items)) }
+    ensures encoding { IsErrOf result SyntaxFault.Encoding → NamesOtherEncoding (characters at (chars text.now)) }
+    ensures doc_type { IsErrOf result SyntaxFault.DocType → HasDocType (characters at (chars text.now)) }
+    ensures not_well_formed { IsErrOf result SyntaxFault.NotWellFormed → SpellsNothing (characters at (chars text.now)) }
+{
+    let mut cursor = Cursor::new(text, at);
+    document(alloc, &mut cursor)
+}
+
+/// No characters spell two trees.
+pub fn one_tree()
+    ensures { (xs : List Placed) (t u : Content) → SpellsDocument xs t → SpellsDocument xs u → t ≡ u }
+{}
+
+/// What [`read_events`] answers, for characters of any number: each document that declares no other encoding is read, and
+/// the first two refusals hold exactly where the grammar says so.
+pub fn outcomes()
+    ensures read { (xs : List Placed) (t : Content) → SpellsDocument xs t → names_other_encoding xs ≡ false → syntax_outcome xs ≡ Ok (events t) }
+    ensures encoding { (xs : List Placed) → (names_other_encoding xs ≡ true) ↔ NamesOtherEncoding xs }
+    ensures doc_type { (xs : List Placed) → (has_doc_type xs ≡ true) ↔ HasDocType xs }
+{}

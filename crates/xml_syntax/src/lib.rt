@@ -1,0 +1,28 @@
+//! Reads the characters of an XML document (XML 1.0, fifth edition) into the events of the one tree that they spell.
+//!
+//! A document in UTF-8 is read from left to right, with a stack of the open elements. [`read_events`] answers the nodes in
+//! document order, with the offsets of tags in the document as it was given. Namespaces, limits and rows are for the
+//! crates above. A document type declaration is refused.
+#![tactic(auto)]
+
+mod attribute;
+mod class;
+mod content;
+mod cursor;
+mod declaration;
+mod document;
+mod event;
+mod fault;
+mod item;
+mod literal;
+mod parts;
+mod prolog;
+mod reference;
+mod tag;
+
+pub use crate::document::{one_tree, read_events};
+pub use crate::event::{Attribute, Event, Instruction, Tag};
+pub use crate::fault::SyntaxFault;
+
+#[cfg(test)]
+mod tests;
