@@ -1,2 +1,4 @@
-pub mod FirstLemmas
+pub mod FirstStands
+pub mod FirstTests
+pub mod FirstTexts
 mod Worked

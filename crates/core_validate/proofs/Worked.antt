@@ -1,5 +1,5 @@
 -- The definitions at a small document of the first form, with the ID `a`, texts in place of the two base64 texts, and the content `Hi`.
-use Rattle.std.proofs.Common.{◌≡◌, refl, ℕ, List, []}
+use Rattle.std.proofs.Common.{◌≡◌, refl, List}
 use Rattle.std.specs.Prelude.{codes}
 use Rattle.xml_doc.specs.Rows.{RowOf}
 use Rattle.xml_doc.specs.FirstRows.{rows_of_texts, head_rows, method_rows, reference_rows, tail_rows}

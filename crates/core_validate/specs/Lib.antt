@@ -1,1 +1,3 @@
+pub mod FirstLike
+pub mod FirstTest
 pub mod Validation

@@ -1,13 +1,12 @@
 -- Core validation (XML Signature 1.1 section 3.2).
-use Rattle.std.specs.Prelude.{◌≡◌, ℕ, ◌*◌, ◌&&◌, nat_le, List, [], ◌∷◌, length, Bool, false, true, not, if◌then◌else◌, bytes_eq, Option, Some, None}
+use Rattle.std.specs.Prelude.{ℕ, ◌*◌, ◌&&◌, nat_le, List, [], ◌∷◌, length, Bool, false, not, if◌then◌else◌, bytes_eq, Option, Some, None}
 use Rattle.sig_base.specs.declared.method.DigestMethod.{DigestMethod}
 use Rattle.sig_base.specs.declared.method.DigestMethod.TheVariants.{Sha256}
 use Rattle.sig_base.specs.declared.method.MacMethod.{MacMethod}
 use Rattle.sig_base.specs.declared.method.MacMethod.TheVariants.{HmacSha256}
 use Rattle.xml_doc.specs.Rows.{RowOf}
 use Rattle.xml_doc.specs.Shape.{row_at}
-use Rattle.xml_doc.specs.FirstForm.{FirstForm}
-use Rattle.xml_doc.specs.FirstRows.{first_rows, signed_info_row, digest_text_row, value_text_row, object_row}
+use Rattle.xml_doc.specs.FirstRows.{signed_info_row, digest_text_row, value_text_row, object_row}
 use Rattle.dsig_base64.specs.Loose.{octets_in}
 use Rattle.digests_hmac.specs.Hash.{hash, hash_of, digest_size, hmac_of, kept}
 use Rattle.node_sets.specs.Members.{in_subtree, is_comment}
@@ -15,11 +14,6 @@ use Rattle.c14n_text.specs.Namespaces.{inclusive}
 use Rattle.c14n_text.specs.Canon.{canon}
 use Rattle.core_validate.specs.declared.report.Report.{Report}
 use Rattle.core_validate.specs.declared.report.Report.TheVariants.{Valid, SignatureDiffers, DigestsDiffer}
-
--- the rows are those of some document of the first form
-pub record IsFirstDocument (rows : List RowOf) : Type 0 where
-  pub form : FirstForm
-  pub rows_are : rows ≡ first_rows form
 
 -- the bits of an HMAC that the signature value has: those that HMACOutputLength gives, else all (XML Signature 1.1 section 6.3.1)
 abbrev pub value_bits : MacMethod → Option ℕ → ℕ

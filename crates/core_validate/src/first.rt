@@ -8,7 +8,8 @@ ghost use Rattle.node_sets.specs.Members.{has, in_subtree};
 ghost use Rattle.c14n_text.specs.Namespaces.{inclusive};
 ghost use Rattle.c14n_text.specs.Canon.{canon};
 ghost use Rattle.digests_hmac.specs.Hash.{hmac_of};
-ghost use Rattle.core_validate.specs.Validation.{IsFirstDocument, canonical_signed_info, digest_holds, first_outcome, holds_of, in_target, reference_view, signature_stands};
+ghost use Rattle.core_validate.specs.FirstLike.{IsFirstLike};
+ghost use Rattle.core_validate.specs.Validation.{canonical_signed_info, digest_holds, first_outcome, holds_of, in_target, reference_view, signature_stands};
 
 use crate::report::Report;
 use c14n_inclusive::write_each;
@@ -149,10 +150,11 @@ fn one_number(alloc: Global, number: u64) -> Result<Numbers, NoMemory>
     Ok(numbers)
 }
 
-/// Validates the signature of a document of the first form under a key. The signature is validated before its Reference
+/// Validates the signature of a document whose rows are those of the first form ([`first_rows`](crate::first_rows) tells
+/// whether they are), under a key. The signature is validated before its Reference
 /// is looked at (XML Signature 1.1 §3.2). The views of a valid report are the octets whose digests were compared.
 pub fn first_validate(alloc: Global, doc: &Doc<'_>, key: &[u8]) -> Result<Report, NoMemory>
-    requires { IsFirstDocument doc.now }
+    requires { IsFirstLike doc.now }
     ensures { IfOk result (λ report. report ≡ first_outcome doc.now key.now) }
 {
     if !signature_stands(alloc, doc, key)? {

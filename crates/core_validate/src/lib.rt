@@ -3,7 +3,9 @@
 #![tactic(auto)]
 
 mod first;
+mod form;
 mod report;
 
 pub use first::first_validate;
+pub use form::{first_documents_are_like, first_rows};
 pub use report::Report;

