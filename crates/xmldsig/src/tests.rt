@@ -104,177 +104,6 @@ fn words_of(alloc: Global, command: &str) -> Result<Vec<String>, NoMemory> {
     Ok(words)
 }
 
-/// Every run whose outcome differs, and each refusal of the reader.
-const CASES: [Case; 22] = [
-    VALID,
-    Case {
-        name: "written otherwise",
-        object: "</SignatureValue ><Object Id = 'obj' >",
-        content: "&#72;el<![CDATA[lo]]>",
-        ..VALID
-    },
-    Case {
-        name: "content changed",
-        content: "Hallo",
-        status: Status::Invalid,
-        out: "invalid digests 1\n",
-        ..VALID
-    },
-    Case {
-        name: "one bit of the value changed",
-        value: OTHER_VALUE,
-        status: Status::Invalid,
-        out: "invalid signature\n",
-        ..VALID
-    },
-    Case {
-        name: "another key",
-        keys: Some("00 k1\n"),
-        status: Status::Invalid,
-        out: "invalid signature\n",
-        ..VALID
-    },
-    Case {
-        name: "no document",
-        has_document: false,
-        status: Status::Refused,
-        out: "",
-        err: "refused NoDocument\n",
-        asked: 1,
-        ..VALID
-    },
-    Case {
-        name: "no key file",
-        keys: None,
-        status: Status::Refused,
-        out: "",
-        err: "refused NoKeys\n",
-        ..VALID
-    },
-    Case {
-        name: "a key file of another form",
-        keys: Some("4a656665 k1"),
-        status: Status::Refused,
-        out: "",
-        err: "refused NotBuilt\n",
-        ..VALID
-    },
-    Case {
-        name: "another URI than the ID",
-        uri: "x",
-        status: Status::Refused,
-        out: "",
-        err: "refused NotBuilt\n",
-        ..VALID
-    },
-    Case {
-        name: "an element in the Object",
-        content: "<a/>",
-        status: Status::Refused,
-        out: "",
-        err: "refused NotBuilt\n",
-        ..VALID
-    },
-    Case {
-        name: "no such command",
-        command: "check",
-        status: Status::Usage,
-        out: "",
-        err: USAGE,
-        asked: 0,
-        ..VALID
-    },
-    Case {
-        name: "the folder fails",
-        folder_fails: true,
-        status: Status::ReadFault,
-        out: "",
-        err: "fault read\n",
-        asked: 1,
-        ..VALID
-    },
-    Case {
-        name: "out fails",
-        out_fails: true,
-        status: Status::WriteFault,
-        out: "",
-        err: "fault write\n",
-        ..VALID
-    },
-    Case {
-        name: "a character that XML does not have",
-        content: "\u{1}",
-        status: Status::Refused,
-        out: "",
-        err: "refused NotWellFormed\n",
-        ..VALID
-    },
-    Case {
-        name: "an end tag that was not begun",
-        content: "</a>",
-        status: Status::Refused,
-        out: "",
-        err: "refused NotWellFormed\n",
-        ..VALID
-    },
-    Case {
-        name: "a prefix that is not bound",
-        content: "<p:a/>",
-        status: Status::Refused,
-        out: "",
-        err: "refused Namespaces\n",
-        ..VALID
-    },
-    Case {
-        name: "a relative namespace name",
-        content: "<a xmlns='a'/>",
-        status: Status::Refused,
-        out: "",
-        err: "refused Namespaces\n",
-        ..VALID
-    },
-    Case {
-        name: "an empty document",
-        head: Some(""),
-        status: Status::Refused,
-        out: "",
-        err: "refused NotWellFormed\n",
-        ..VALID
-    },
-    Case {
-        name: "a document type",
-        head: Some("<!DOCTYPE a><a>"),
-        status: Status::Refused,
-        out: "",
-        err: "refused DocType\n",
-        ..VALID
-    },
-    Case {
-        name: "another encoding",
-        head: Some("<?xml version='1.0' encoding='UTF-16'?><a/>"),
-        status: Status::Refused,
-        out: "",
-        err: "refused Encoding\n",
-        ..VALID
-    },
-    Case {
-        name: "another document",
-        head: Some("<a/>"),
-        status: Status::Refused,
-        out: "",
-        err: "refused NotBuilt\n",
-        ..VALID
-    },
-    Case {
-        name: "no element",
-        head: Some("<!--c-->"),
-        status: Status::Refused,
-        out: "",
-        err: "refused NotWellFormed\n",
-        ..VALID
-    },
-];
-
 fn sink(alloc: Global, fails: bool) -> Result<MemSink, NoMemory> {
     let mut sink = MemSink::with_room(alloc, 100)?;
     if fails {
@@ -302,10 +131,142 @@ fn run_case(rt: &impl Abort, alloc: Global, case: &Case) -> Result<(), NoMemory>
     Ok(())
 }
 
+fn run_cases(rt: &impl Abort, alloc: Global, cases: &[Case]) -> Result<(), NoMemory> {
+    for case in cases {
+        run_case(rt, alloc, case)?;
+    }
+    Ok(())
+}
+
+/// A case that is refused, with this line on err.
+fn refused(name: &'static str, err: &'static str) -> Case {
+    Case {
+        name,
+        status: Status::Refused,
+        out: "",
+        err,
+        ..VALID
+    }
+}
+
 #[test]
-fn runs(rt: HostRuntime) -> Result<(), Fail> {
-    for case in &CASES {
-        run_case(&rt, rt.alloc(), case)?;
+fn validations(rt: HostRuntime) -> Result<(), Fail> {
+    let cases = [
+        VALID,
+        Case {
+            name: "written otherwise",
+            object: "</SignatureValue ><Object Id = 'obj' >",
+            content: "&#72;el<![CDATA[lo]]>",
+            ..VALID
+        },
+        Case {
+            name: "content changed",
+            content: "Hallo",
+            status: Status::Invalid,
+            out: "invalid digests 1\n",
+            ..VALID
+        },
+        Case {
+            name: "a bit of the value changed",
+            value: OTHER_VALUE,
+            status: Status::Invalid,
+            out: "invalid signature\n",
+            ..VALID
+        },
+        Case {
+            name: "another key",
+            keys: Some("00 k1\n"),
+            status: Status::Invalid,
+            out: "invalid signature\n",
+            ..VALID
+        },
+    ];
+    run_cases(&rt, rt.alloc(), &cases)?;
+    Ok(())
+}
+
+#[test]
+fn refusals(rt: HostRuntime) -> Result<(), Fail> {
+    let cases = [
+        Case {
+            has_document: false,
+            asked: 1,
+            ..refused("no document", "refused NoDocument\n")
+        },
+        Case {
+            keys: None,
+            ..refused("no key file", "refused NoKeys\n")
+        },
+        Case {
+            keys: Some("4a656665 k1"),
+            ..refused("a key file of another form", "refused NotBuilt\n")
+        },
+        Case {
+            uri: "x",
+            ..refused("another URI than the ID", "refused NotBuilt\n")
+        },
+    ];
+    run_cases(&rt, rt.alloc(), &cases)?;
+    Ok(())
+}
+
+#[test]
+fn faults(rt: HostRuntime) -> Result<(), Fail> {
+    let cases = [
+        Case {
+            name: "no such command",
+            command: "check",
+            status: Status::Usage,
+            out: "",
+            err: USAGE,
+            asked: 0,
+            ..VALID
+        },
+        Case {
+            name: "the folder fails",
+            folder_fails: true,
+            status: Status::ReadFault,
+            out: "",
+            err: "fault read\n",
+            asked: 1,
+            ..VALID
+        },
+        Case {
+            name: "out fails",
+            out_fails: true,
+            status: Status::WriteFault,
+            out: "",
+            err: "fault write\n",
+            ..VALID
+        },
+    ];
+    run_cases(&rt, rt.alloc(), &cases)?;
+    Ok(())
+}
+
+#[test]
+fn documents_of_other_forms(rt: HostRuntime) -> Result<(), Fail> {
+    let cases = [
+        ("", "refused NotWellFormed\n"),
+        ("<a><b></a>", "refused NotWellFormed\n"),
+        ("<!DOCTYPE a><a>", "refused DocType\n"),
+        (
+            "<?xml version='1.0' encoding='UTF-16'?><a/>",
+            "refused Encoding\n",
+        ),
+        ("<p:a/>", "refused Namespaces\n"),
+        ("<a xmlns='a'/>", "refused Namespaces\n"),
+        ("<a/>", "refused NotBuilt\n"),
+    ];
+    for (text, err) in cases {
+        run_case(
+            &rt,
+            rt.alloc(),
+            &Case {
+                head: Some(text),
+                ..refused(text, err)
+            },
+        )?;
     }
     Ok(())
 }
