@@ -1,9 +1,8 @@
 -- The rows that are made from event to event are the rows of the tree.
-use Rattle.std.proofs.Common.{◌≡◌, ℕ, ◌+◌, ◌-◌, ◌<◌, ◌≤◌, Bool, true, false, cond, ◌||◌, List, [], ◌∷◌, ◌++◌, length, get_or, Option, Some, None, refl, sym, ap, subst, ◌∙◌, append_assoc, append-nil, arith, length-append}
+use Rattle.std.proofs.Common.{◌≡◌, ℕ, ◌+◌, ◌-◌, ◌≤◌, Bool, true, false, cond, ◌||◌, List, [], ◌∷◌, ◌++◌, length, get_or, Option, Some, None, refl, sym, ap, subst, ◌∙◌, append_assoc, append-nil, arith, length-append}
 use Rattle.std.specs.Prelude.{option_map, is_none}
 use Rattle.std.specs.List.{list_any}
 use Rattle.std.specs.BTreeMap.{insert_entry}
-use Rattle.std.proofs.Math.ListN.{set}
 use Rattle.std.proofs.lemmas.List.{set_at, get_or_at, length-set}
 use Rattle.xml_names.specs.Names.{qname_of, is_ncname}
 use Rattle.xml_names.specs.Scopes.{declared_fault}
@@ -11,11 +10,11 @@ use Rattle.xml_doc.specs.Rows.{RowOf}
 use Rattle.xml_doc.specs.Shape.{no_row}
 use Rattle.xml_syntax.specs.Tree.{Tag, Attribute, Content, nothing, text, comment, instruction, element, events, Event, Text, Comment, Instruction, Start, End}
 use Rattle.xml_resolve.specs.Resolve.{◌>>=◌, Declaration, Name, NamedValue, NamedTag, Resolved, nothing_in, text_in, comment_in, instruction_in, element_in, Above, bound_above, is_declaration, declaration_of, declared_by, element_name, attribute_uri, named_by, have_own_names, resolve_tag, resolve}
-use Rattle.xml_resolve.specs.Rows.{Binding, Ordered, with_binding, with_all, first_bindings, in_order, namespace_rows, attribute_rows, field_rows, element_row, text_row, comment_row, instruction_row, root_row, rows_from, rows_of}
-use Rattle.xml_resolve.specs.InScope.{AreFaultless, AreFaultlessAbove, bindings_above}
+use Rattle.xml_resolve.specs.Rows.{Binding, Ordered, with_binding, with_all, first_bindings, in_order, field_rows, element_row, text_row, comment_row, instruction_row, root_row, rows_from, rows_of}
+use Rattle.xml_resolve.specs.InScope.{AreFaultlessAbove, bindings_above}
 use Rattle.xml_resolve.specs.Steps.{key_cmp}
 use Rattle.xml_resolve.specs.Table.{Stack, no_stack, parent_of, bindings_of, pushed, popped, bound_by, is_declaring, declares, with_attribute, bindings_behind, ordered_behind, tag_rows, closed, built}
-use Rattle.xml_resolve.proofs.ResolveLaws.{bind_map, if_map, bind_cong, element_cong, named_cong}
+use Rattle.xml_resolve.proofs.ResolveLaws.{bind_map, if_map, element_cong, named_cong}
 use Rattle.xml_resolve.proofs.OrderLaws.{bindings_are, are_faultless}
 
 -- ---- steps that give something

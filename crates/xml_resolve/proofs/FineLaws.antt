@@ -1,14 +1,14 @@
 -- What is true of the resolved tree of a document.
-use Rattle.std.proofs.Common.{◌≡◌, ◌≢◌, ℕ, Bool, true, false, not, ◌&&◌, List, [], ◌∷◌, Option, Some, refl, sym, ap, subst, ◌∙◌}
+use Rattle.std.proofs.Common.{◌≡◌, ◌≢◌, ℕ, Bool, true, false, not, ◌&&◌, List, [], ◌∷◌, Some, refl, sym, ap, subst, ◌∙◌}
 use Rattle.std.proofs.lemmas.Bool.{false≢true}
 use Rattle.xml_names.specs.Names.{is_ncname}
 use Rattle.xml_names.specs.Scopes.{is_empty}
-use Rattle.xml_syntax.specs.Tree.{Tag, Content, nothing, text, comment, instruction, element}
+use Rattle.xml_syntax.specs.Tree.{Content, nothing, text, comment, instruction, element}
 use Rattle.xml_resolve.specs.Documents.{begins_text, are_texts_joined, is_misc, has_one_element, is_document}
 use Rattle.xml_resolve.specs.InScope.{AreFaultless}
-use Rattle.xml_resolve.specs.Resolve.{Above, Resolved, nothing_in, text_in, comment_in, instruction_in, element_in, resolve, resolve_tag}
+use Rattle.xml_resolve.specs.Resolve.{Above, Resolved, nothing_in, text_in, comment_in, instruction_in, element_in, resolve}
 use Rattle.xml_resolve.proofs.OrderLaws.{are_faultless}
-use Rattle.xml_resolve.proofs.BuiltLaws.{bind_some, cond_some, some_is, ElementIs, element_parts}
+use Rattle.xml_resolve.proofs.BuiltLaws.{bind_some, cond_some, some_is, element_parts}
 
 abbrev pub begins_text_in : Resolved → Bool
 begins_text_in nothing_in = false

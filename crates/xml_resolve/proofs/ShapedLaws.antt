@@ -1,5 +1,5 @@
 -- The rows of a document are well shaped.
-use Rattle.std.proofs.Common.{◌≡◌, ◌≢◌, ℕ, suc, ◌+◌, ◌-◌, ◌<◌, ◌≤◌, ◌⊎◌, inl, inr, Bool, true, false, cond, ◌&&◌, eqb, List, [], ◌∷◌, length, drop, Option, Some, None, refl, sym, ap, subst, ◌∙◌, arith}
+use Rattle.std.proofs.Common.{◌≡◌, ◌≢◌, ℕ, suc, ◌+◌, ◌-◌, ◌<◌, ◌≤◌, inl, inr, Bool, true, false, ◌&&◌, eqb, List, [], length, drop, Option, Some, None, refl, sym, ap, ◌∙◌, arith}
 use Rattle.std.specs.Prelude.{codes, is_some}
 use Rattle.std.proofs.lemmas.Bool.{cases_lt, cases_eq, eq-eqb, eqb-true, false≢true}
 use Rattle.std.proofs.lemmas.List.{get_or-drop, length-drop}
@@ -14,14 +14,14 @@ use Rattle.xml_syntax.specs.Tree.{Content}
 use Rattle.xml_resolve.specs.Documents.{is_document}
 use Rattle.xml_resolve.specs.Resolve.{Resolved, resolve}
 use Rattle.xml_resolve.proofs.RowTree.{IsTree, HasFields}
-use Rattle.xml_resolve.specs.Rows.{first_bindings, rows_from, rows_of, root_row}
+use Rattle.xml_resolve.specs.Rows.{first_bindings, rows_from, rows_of}
 use Rattle.xml_resolve.specs.Table.{bound_by}
 use Rattle.xml_resolve.proofs.EachLaws.{fit_at}
 use Rattle.xml_resolve.proofs.FieldLaws.{has_fields}
 use Rattle.xml_resolve.proofs.FineLaws.{Fine, HasOne, fine_of, one_of, document_parts}
-use Rattle.xml_resolve.proofs.ScopedLaws.{KeepsNames, own_at, names_in, ScopesIn, Inherits, bound_row, RowFor, row_behind, scopes_below}
-use Rattle.xml_resolve.proofs.ShapeLaws.{GoodIn, good_below, tree_is}
-use Rattle.xml_resolve.proofs.TopLaws.{Tops, tops_of}
+use Rattle.xml_resolve.proofs.ScopedLaws.{own_at, names_in, ScopesIn, Inherits, bound_row, RowFor, row_behind, scopes_below}
+use Rattle.xml_resolve.proofs.ShapeLaws.{good_below, tree_is}
+use Rattle.xml_resolve.proofs.TopLaws.{tops_of}
 
 namespace_is : (k : Kind) → is_namespace k ≡ true → k ≡ Namespace
 namespace_is kinds.Root e = absurd (false≢true e)

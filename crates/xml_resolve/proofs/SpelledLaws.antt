@@ -1,10 +1,10 @@
 -- What characters spell is the tree of a document.
-use Rattle.std.proofs.Common.{◌≡◌, ◌≢◌, ℕ, Bool, true, false, ◌&&◌, not, List, [], ◌∷◌, ◌++◌, refl, sym, ap, ◌∙◌}
+use Rattle.std.proofs.Common.{◌≡◌, ℕ, Bool, true, false, ◌&&◌, not, List, [], ◌∷◌, refl}
 use Rattle.std.proofs.lemmas.Bool.{false≢true}
 use Rattle.xml_names.specs.Scopes.{is_empty}
 use Rattle.xml_syntax.specs.Characters.{Placed}
 use Rattle.xml_syntax.specs.Grammar.{SpellsContent, none, char_data, a_reference, a_section, a_comment, an_instruction, an_empty, an_element, SpellsMisc, no_misc, some_space, misc_comment, misc_instruction, SpellsElement, empty_root, root, SpellsDocument, document}
-use Rattle.xml_syntax.specs.Tree.{Tag, Content, nothing, text, comment, instruction, element, text_before, followed_by}
+use Rattle.xml_syntax.specs.Tree.{Content, nothing, text, comment, instruction, element, text_before, followed_by}
 use Rattle.xml_resolve.specs.Documents.{begins_text, are_texts_joined, is_misc, has_one_element, is_document}
 
 and_from : (a b : Bool) → a ≡ true → b ≡ true → (a && b) ≡ true

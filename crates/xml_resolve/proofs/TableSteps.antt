@@ -1,10 +1,10 @@
 -- What a call that adds rows, or takes an event, has done where it returns.
-use Rattle.std.proofs.Common.{◌≡◌, ℕ, ◌+◌, ◌<◌, ◌≤◌, Bool, true, false, List, [], ◌∷◌, ◌++◌, length, Option, Some, None, Result, Ok, Err, refl, sym, ap, ◌∙◌, append_assoc, arith, length-append}
+use Rattle.std.proofs.Common.{◌≡◌, ℕ, ◌+◌, ◌≤◌, Bool, List, [], ◌∷◌, ◌++◌, length, Option, Some, None, Result, Ok, Err, refl, sym, ap, ◌∙◌, append_assoc, arith, length-append}
 use Rattle.std.specs.Prelude.{option_map, OnOk, OnErr}
 use Rattle.std.specs.List.{list_any}
 use Rattle.xml_doc.specs.Rows.{RowOf}
 use Rattle.xml_doc.specs.declared.row.Kind.TheVariants as kinds
-use Rattle.xml_syntax.specs.Tree.{Tag, Event, Text, Comment, Instruction, Start, End}
+use Rattle.xml_syntax.specs.Tree.{Tag, Event, Text, Comment, Instruction, Start}
 use Rattle.xml_resolve.specs.Resolve.{◌>>=◌, Name, element_name}
 use Rattle.xml_resolve.specs.Rows.{Binding, Ordered, namespace_rows, attribute_rows, element_row}
 use Rattle.xml_resolve.specs.Limits.{row_limit}

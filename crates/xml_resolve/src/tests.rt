@@ -35,9 +35,7 @@ fn names_are_resolved_or_refused(rt: HostRuntime) -> Result<(), Fail> {
     ];
     for (text, resolved) in documents {
         let events = events(alloc, text)?;
-        let bump = Bump::new(alloc);
-        let answer = document_rows(alloc, &bump, &events);
-        assert_eq!(rt; answer.is_ok(), resolved, "{text}");
+        assert_eq!(rt; check_names(alloc, &events).is_ok(), resolved, "{text}");
     }
     Ok(())
 }
@@ -47,7 +45,7 @@ fn rows_in_document_order(rt: HostRuntime) -> Result<(), Fail> {
     let alloc = rt.alloc();
     let events = events(alloc, "<a xmlns='urn:x' b='2' a='1'>t<b xmlns=''/></a>")?;
     let bump = Bump::new(alloc);
-    let rows = document_rows(alloc, &bump, &events).ok().ok_or("rows")?;
+    let rows = build_rows(alloc, &bump, &events).ok().ok_or("rows")?;
     assert_eq!(rt; depth_of(&events), 2);
     let wanted = [
         (Kind::Root, 0, 8, ""),

@@ -2,7 +2,7 @@
 use Rattle.std.proofs.Common.{◌≡◌, ℕ, false, suc, List, [], ◌∷◌, ◌++◌, length, Option, Some, None, refl, sym, ap, subst, ◌∙◌, append_assoc, append-nil, arith, length-append}
 use Rattle.xml_syntax.specs.Characters.{Placed}
 use Rattle.xml_syntax.specs.Tree.{Tag, Content, nothing, element, followed_by}
-use Rattle.xml_syntax.specs.Grammar.{SpellsStart, SpellsEnd, SpellsElement, empty_root, root, SpellsMisc, SpellsDeclaration, SpellsDocument, document}
+use Rattle.xml_syntax.specs.Grammar.{SpellsStart, SpellsEnd, SpellsContent, SpellsElement, empty_root, root, SpellsMisc, SpellsDeclaration, SpellsDocument, document}
 use Rattle.xml_syntax.specs.Reading.{◌>>=◌, Item, Words, Comment, Instruction, Empty, Start, End, tag_of, Level, left_of, closed_by, behind_tag, element_of, misc_follows, misc_of, declaration_follows, declared_of, prolog_of, at_end, behind_prolog, document_of}
 use Rattle.xml_syntax.proofs.Runs.{bind_some, some_is, Taken}
 use Rattle.xml_syntax.proofs.ItemLaws.{SpellsMarkup, tag_taken, start_complete, empty_complete, start_begins, empty_begins, BeginsTag, end_begins, end_item}
@@ -58,14 +58,20 @@ end_alone c rest name until close = left_step 0 name [] [] (c ++ rest) rest rest
 regroup3 : (a b c rest : List Placed) → (a ++ (b ++ c)) ++ rest ≡ a ++ (b ++ (c ++ rest))
 regroup3 a b c rest = simp append_assoc
 
+-- content and an end tag
+pub closed_content : (s e rest : List Placed) (k : Content) (name : List ℕ) (from : ℕ) → SpellsContent s k → SpellsEnd e name from
+    → left_of (length (s ++ (e ++ rest))) (name ∷ []) (s ++ (e ++ rest)) ≡ Some ((k, from) ∷ [], rest)
+closed_content s e rest k name from within close =
+    let end_less = end_begins e rest name from close in
+    let inside = content_complete s k within 1 (e ++ rest) rest name [] from [] end_less.less (end_alone e rest name from close) in
+    more_items (items_and s k within 1) (length (s ++ (e ++ rest))) (name ∷ []) (s ++ (e ++ rest)) ((k, from) ∷ [], rest)
+    (omega (arith, items_bound s k within 1, length-append s (e ++ rest), length-append e rest, nonempty (End name from) [] e close)) inside
+
 pub element_complete : (s rest : List Placed) (k : Content) → SpellsElement s k → element_of (s ++ rest) ≡ Some (k, rest)
 unfolding element_of behind_tag
 element_complete s rest k (empty_root a tag until here) = rw (empty_complete s rest tag until here) refl
 element_complete s rest k (root a b c tag inner until here within close) =
-    let end_less = end_begins c rest tag.name until close in
-    let inside = content_complete b inner within 1 (c ++ rest) rest tag.name [] until [] end_less.less (end_alone c rest tag.name until close) in
-    let enough : left_of (length (b ++ (c ++ rest))) (tag.name ∷ []) (b ++ (c ++ rest)) ≡ Some ((inner, until) ∷ [], rest) =
-    more_items (items_and b inner within 1) (length (b ++ (c ++ rest))) (tag.name ∷ []) (b ++ (c ++ rest)) ((inner, until) ∷ [], rest) (omega (arith, items_bound b inner within 1, length-append b (c ++ rest), length-append c rest, nonempty (End tag.name until) [] c close)) inside in
+    let enough = closed_content b c rest inner tag.name until within close in
     ap element_of (regroup3 a b c rest) ∙ (rw (start_complete a (b ++ (c ++ rest)) tag here, enough) refl)
 
 pub element_begins : (s rest : List Placed) (k : Content) → SpellsElement s k → BeginsTag (s ++ rest)

@@ -125,16 +125,3 @@ pub fn read_events(alloc: Global, text: &str, at: u32) -> Result<Vec<Event>, Syn
     let mut cursor = Cursor::new(text, at);
     document(alloc, &mut cursor)
 }
-
-/// No characters spell two trees.
-pub fn one_tree()
-    ensures { (xs : List Placed) (t u : Content) → SpellsDocument xs t → SpellsDocument xs u → t ≡ u }
-{}
-
-/// What [`read_events`] answers, for characters of any number: each document that declares no other encoding is read, and
-/// the first two refusals hold exactly where the grammar says so.
-pub fn outcomes()
-    ensures read { (xs : List Placed) (t : Content) → SpellsDocument xs t → names_other_encoding xs ≡ false → syntax_outcome xs ≡ Ok (events t) }
-    ensures encoding { (xs : List Placed) → (names_other_encoding xs ≡ true) ↔ NamesOtherEncoding xs }
-    ensures doc_type { (xs : List Placed) → (has_doc_type xs ≡ true) ↔ HasDocType xs }
-{}

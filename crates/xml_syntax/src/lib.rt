@@ -14,15 +14,17 @@ mod document;
 mod event;
 mod fault;
 mod item;
+mod laws;
 mod literal;
 mod parts;
 mod prolog;
 mod reference;
 mod tag;
 
-pub use crate::document::{one_tree, read_events};
+pub use crate::document::read_events;
 pub use crate::event::{Attribute, Event, Instruction, Tag};
 pub use crate::fault::SyntaxFault;
+pub use crate::laws::{documents_are_read, one_tree, outcomes, parts_are_read};
 
 #[cfg(test)]
 mod tests;
