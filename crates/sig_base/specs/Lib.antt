@@ -1,2 +1,3 @@
 pub mod Counts
+pub mod Methods
 pub mod Puts
