@@ -5,9 +5,10 @@
 #![tactic(auto)]
 
 ghost use Rattle.std.specs.Prelude.{◌≡◌, map, false, [], IsTrue, encode_utf8_all};
+ghost use Rattle.sig_base.specs.Methods.{is_exclusive};
 ghost use Rattle.sig_base.specs.Puts.{Each};
 ghost use Rattle.node_sets.specs.View.{in_view, rows_of};
-ghost use Rattle.c14n_methods.specs.Methods.{is_exclusive, is_offered, canonical_form};
+ghost use Rattle.c14n_methods.specs.Methods.{is_offered, canonical_form};
 ghost use Rattle.c14n_methods.specs.Canons.{Canons};
 
 use node_sets::SetView;

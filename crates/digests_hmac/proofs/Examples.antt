@@ -1,11 +1,11 @@
 -- Examples of the definitions, computed: a wrong pad, a wrong order or a wrong digit does not check.
-use Rattle.std.proofs.Common.{◌≡◌, [], ◌∷◌, ◌++◌, Some, None, Ok, Err, codes, refl}
+use Rattle.std.proofs.Common.{◌≡◌, [], ◌∷◌, ◌++◌, Ok, Err, codes, refl}
 use Rattle.sha1.specs.Sha1.{first_words, schedule, rounds, compress, hash_after, digest_bytes, sha1}
 use Rattle.sig_base.specs.declared.MacMethod.TheVariants.{HmacSha1}
 use Rattle.std.specs.Str.{chars, is_utf8}
 use Rattle.std.specs.Char.{encode_utf8}
 use Rattle.digests_hmac.specs.Hash.{hmac_of}
-use Rattle.digests_hmac.specs.KeyLines.{first_key, octets_of_digits}
+use Rattle.digests_hmac.specs.KeyLines.{octets_of_digits}
 use Rattle.digests_hmac.specs.Keys.{keys_of, lines_of, lines_read, line_read}
 use Rattle.digests_hmac.specs.declared.key_table.KeyFault.TheVariants.{BadLine, Repeated}
 
@@ -13,12 +13,6 @@ use Rattle.digests_hmac.specs.declared.key_table.KeyFault.TheVariants.{BadLine, 
 pub hmac_of_nothing : hmac_of HmacSha1 (codes "Jefe") (codes "what do ya want for nothing?") ≡ 239 ∷ 252 ∷ 223 ∷ 106 ∷ 229 ∷ 235 ∷ 47 ∷ 162 ∷ 210 ∷ 116 ∷ 22 ∷ 213 ∷ 241 ∷ 132 ∷ 223 ∷ 156 ∷ 37 ∷ 154 ∷ 124 ∷ 121 ∷ []
 unfolding first_words schedule rounds compress hash_after digest_bytes sha1 hmac_of
 hmac_of_nothing = refl
-
--- a file of one key line, and files of another form
-pub first_keys : (first_key (codes "4a656665 k1" ++ 10 ∷ []) ≡ Some (codes "Jefe")) × (first_key (codes "4A k") ≡ None)
-    × (first_key (codes "4A k" ++ 13 ∷ 10 ∷ []) ≡ None) × (first_key (codes "#4a k" ++ 10 ∷ []) ≡ None)
-unfolding first_key octets_of_digits
-first_keys = (refl, refl, refl, refl)
 
 -- a comment line is counted, and a line that has no name is refused
 pub key_files : (keys_of (codes "# k" ++ 10 ∷ codes "4a k" ++ 13 ∷ 10 ∷ []) ≡ Ok (record { line = 2; name = codes "k"; octets = 74 ∷ [] } ∷ []))

@@ -1,4 +1,4 @@
-use Rattle.std.proofs.Common.{◌≡◌, ℕ, ◌+◌, ◌<◌, ◌≤◌, true, false, Bool, cond, List, [], ◌∷◌, ◌++◌, length, take, get_or, Option, Some, None, Result, Ok, Err, refl, sym, ap, ◌∙◌, subst, arith, append_assoc, append-nil, length-append, nat_lt, ◌⊎◌, inl, inr}
+use Rattle.std.proofs.Common.{◌≡◌, ℕ, ◌+◌, ◌<◌, List, [], ◌∷◌, ◌++◌, length, take, get_or, Option, Some, None, Result, Ok, Err, refl, ap, ◌∙◌, arith, append_assoc, append-nil, length-append, nat_lt, inl, inr}
 use Rattle.std.proofs.Math.Seq.{get_or-append_seam}
 use Rattle.std.proofs.lemmas.Bool.{cases_Bool, cases_lt}
 use Rattle.std.proofs.lemmas.List.{take_at}
@@ -7,7 +7,7 @@ use Rattle.digests_hmac.specs.declared.key_table.KeyFault.{KeyFault}
 use Rattle.digests_hmac.specs.KeyEntries.{KeyEntry}
 use Rattle.digests_hmac.specs.KeyLines.{is_key_line, is_skipped}
 use Rattle.digests_hmac.specs.Keys.{added_unless, and_then, entry_of, key_limit, keys_of, line_read, lines_of, lines_read, named}
-use Rattle.digests_hmac.specs.KeyFiles.{keys_in, clash, fault_of, fault_at, Accepted, Refused, Decides, FileDecides}
+use Rattle.digests_hmac.specs.KeyFiles.{keys_in, clash, fault_of, fault_at, Decides, FileDecides}
 
 -- one step agrees with the fault of a line
 abbrev Agrees : Option KeyFault → Result (List KeyEntry) KeyFault → List KeyEntry → Type 0

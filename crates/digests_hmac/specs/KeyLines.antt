@@ -1,6 +1,6 @@
 -- Lines of a key file: the key in hexadecimal digits, one space, the key's name
-use Rattle.std.specs.Prelude.{◌==◌, ℕ, ◌+◌, ◌-◌, ◌*◌, ◌%◌, Bool, true, not, ◌&&◌, nat_lt, nat_le, List, [], ◌∷◌, length, take, get_or, Option, Some, None, is_some, if◌then◌else◌}
-use Rattle.std.specs.Option.{option_map_or, option_and_then}
+use Rattle.std.specs.Prelude.{◌==◌, ℕ, ◌+◌, ◌-◌, ◌*◌, ◌%◌, Bool, true, not, ◌&&◌, nat_lt, nat_le, List, [], ◌∷◌, length, Option, Some, None, is_some, if◌then◌else◌}
+use Rattle.std.specs.Option.{option_map_or}
 use Rattle.std.specs.List.{list_all, position_or_len, before_first, after_first}
 
 -- a number from one to another
@@ -50,23 +50,3 @@ is_key_line line =
 abbrev pub is_skipped : List ℕ → Bool
 is_skipped [] = true
 is_skipped (c ∷ rest) = c == 35
-
--- a character of ASCII that is neither a control character nor DEL (RFC 20)
-abbrev pub is_printable : ℕ → Bool
-is_printable c = is_between 32 126 c
-
--- the key of a key line whose name is printable, and none of another line
-abbrev pub key_in : List ℕ → Option (List ℕ)
-key_in line =
-    if is_key_line line && list_all is_printable (after_first is_blank line)
-    then Some (octets_of_digits (before_first is_blank line)) else None
-
--- what stands before an LF that ends the octets, and none where no LF ends them
-abbrev pub before_lf : List ℕ → Option (List ℕ)
-before_lf octets =
-    if nat_lt 0 (length octets) && (get_or octets (length octets - 1) 0 == 10)
-    then Some (take (length octets - 1) octets) else None
-
--- the key of a file that is one key line with a printable name, ended by LF; none of another file
-unfoldable pub first_key : List ℕ → Option (List ℕ)
-first_key file = option_and_then key_in (before_lf file)

@@ -1,31 +1,10 @@
 //! Key files: lines of a key in hexadecimal digits, one space and the key's name.
 
-ghost use Rattle.std.specs.Prelude.{◌≡◌, ◌↔◌, ◌<◌, ◌≤◌, ◌==◌, MatchOption, IfOk, not, nat_lt, length};
+ghost use Rattle.std.specs.Prelude.{◌≡◌, ◌<◌, ◌≤◌, ◌==◌, IfOk, not, nat_lt, length};
 ghost use Rattle.std.specs.List.{list_all, position_or_len};
-ghost use Rattle.digests_hmac.specs.KeyLines.{before_lf, first_key, is_printable};
 ghost use Rattle.digests_hmac.specs.KeyLines as spec;
 
-use sig_base::Octets;
 use std::alloc::{AllocError, Global};
-
-/// Why no key was read from a key file of one line.
-#[derive(Clone, Copy, Debug, PartialEq, Eq, Drop)]
-pub enum FirstKeyFault {
-    /// The file isn't one key line with a printable name, ended by LF.
-    NotBuilt,
-    /// Memory that was asked for was not given.
-    Memory,
-}
-
-impl From<AllocError> for FirstKeyFault {
-    ghost use Rattle.digests_hmac.specs.declared.keys.FirstKeyFault.TheVariants.{Memory};
-
-    ghost from_gives = { λ _ fault. fault ≡ Memory };
-
-    fn from(_: AllocError) -> FirstKeyFault {
-        FirstKeyFault::Memory
-    }
-}
 
 /// The value of a hexadecimal digit of either case.
 fn digit_value(octet: u8) -> Option<u8>
@@ -75,13 +54,6 @@ pub(crate) fn is_key_name(name: &[u8]) -> bool
     1 <= name.len() && name.len() <= 256 && have_no_controls(name)
 }
 
-/// Whether each octet is a printable character of ASCII.
-fn are_printable(octets: &[u8]) -> bool
-    ensures { result ≡ list_all is_printable octets.now }
-{
-    octets.iter().all(|octet| 32 <= *octet && *octet <= 126)
-}
-
 /// The octets that pairs of digits spell, the high digit first.
 pub(crate) fn octets_of_digits(alloc: Global, digits: &[u8]) -> Result<Vec<u8>, AllocError>
     ensures { IfOk result (λ v. v.items ≡ spec.octets_of_digits digits.now) }
@@ -91,16 +63,6 @@ pub(crate) fn octets_of_digits(alloc: Global, digits: &[u8]) -> Result<Vec<u8>, 
         octets.push(16 * value_of(digits[2 * i]) + value_of(digits[2 * i + 1]))?;
     }
     Ok(octets)
-}
-
-/// What stands before the LF that ends the octets.
-fn before_lf(octets: &[u8]) -> Option<&[u8]>
-    ensures { MatchOption result (before_lf octets.now ≡ None) (λ line. before_lf octets.now ≡ Some line.now) }
-{
-    if !octets.is_empty() && octets[octets.len() - 1] == b'\n' {
-        return Some(&octets[..octets.len() - 1]);
-    }
-    None
 }
 
 /// The place of the first octet that is the wanted one, or the length where there is none.
@@ -114,41 +76,4 @@ pub(crate) fn place_of(octets: &[u8], wanted: u8) -> usize
         }
     }
     octets.len()
-}
-
-/// The digits of a key line with a printable name.
-fn digits_in(line: &[u8]) -> Option<&[u8]>
-    ensures { MatchOption result (spec.key_in line.now ≡ None) (λ digits. spec.key_in line.now ≡ Some (spec.octets_of_digits digits.now)) }
-{
-    let space = place_of(line, b' ');
-    if space == line.len() {
-        return None;
-    }
-    if !is_key_digits(&line[..space]) {
-        return None;
-    }
-    let name = &line[space + 1..];
-    if !is_key_name(name) || !are_printable(name) {
-        return None;
-    }
-    Some(&line[..space])
-}
-
-/// The key of a file that is one key line with a printable name, ended by LF.
-///
-/// `NotBuilt` comes exactly where the file is another one: a comment, two lines, an end of CR LF or no end, a name with
-/// an octet outside `#x20` to `#x7E`.
-#[tactic(auto, unfolding(crate::specs::KeyLines::first_key))]
-pub fn read_first_key(alloc: Global, bytes: &[u8]) -> Result<Octets, FirstKeyFault>
-    ensures key { IfOk result (λ key. first_key bytes.now ≡ Some key) }
-    ensures not_built { (result ≡ Err FirstKeyFault.NotBuilt) ↔ (first_key bytes.now ≡ None) }
-{
-    let Some(line) = before_lf(bytes) else {
-        return Err(FirstKeyFault::NotBuilt);
-    };
-    let Some(digits) = digits_in(line) else {
-        return Err(FirstKeyFault::NotBuilt);
-    };
-    let octets = octets_of_digits(alloc, digits)?;
-    Ok(Octets::from_vec(octets))
 }

@@ -10,7 +10,6 @@ mod value;
 
 pub use hasher::{DigestSink, digest};
 pub use key_table::{Key, KeyFault, KeyTable};
-pub use keys::{FirstKeyFault, read_first_key};
 pub use mac::{MacSink, hmac, hmac_matches};
 pub use value::Digest;
 

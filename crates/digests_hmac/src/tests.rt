@@ -1,9 +1,6 @@
 //! Vectors from FIPS 180-4's examples, RFC 2202 and RFC 4231.
 
-use crate::{
-    Digest, DigestSink, FirstKeyFault, KeyFault, KeyTable, MacSink, digest, hmac, hmac_matches,
-    read_first_key,
-};
+use crate::{Digest, DigestSink, KeyFault, KeyTable, MacSink, digest, hmac, hmac_matches};
 use sig_base::{DigestMethod, MacMethod, OctetSink, Put};
 use std::alloc::{AllocError, Global};
 
@@ -156,27 +153,6 @@ fn truncated_values(rt: HostRuntime) {
     assert!(rt; !hmac_matches(&full, 80, &full.bytes()[..9]));
     assert!(rt; !hmac_matches(&full, 80, full.bytes()));
     assert!(rt; !hmac_matches(&full, 80, b""));
-}
-
-#[test]
-fn first_keys(rt: HostRuntime) -> Result<(), FirstKeyFault> {
-    let key = read_first_key(rt.alloc(), b"4a656665 k1\n")?;
-    assert!(rt; key.bytes() == b"Jefe".as_slice());
-    for file in [
-        "4a k",
-        "4a k\r\n",
-        "4a k\n4b l\n",
-        "#4a k\n",
-        "4a6 k\n",
-        "4a \n",
-        "4a k\x7f\n",
-        "",
-    ] {
-        assert!(rt;
-            read_first_key(rt.alloc(), file.as_bytes()).err() == Some(FirstKeyFault::NotBuilt)
-        );
-    }
-    Ok(())
 }
 
 #[test]

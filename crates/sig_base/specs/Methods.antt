@@ -1,5 +1,5 @@
 -- The identifiers of methods: XML Signature 1.1, section 6.
-use Rattle.std.specs.Prelude.{List, [], ◌∷◌, ℕ, Option, find, codes, bytes_eq}
+use Rattle.std.specs.Prelude.{List, [], ◌∷◌, ℕ, Bool, true, false, Option, find, codes, bytes_eq}
 use Rattle.sig_base.specs.declared.method.CanonMethod.{CanonMethod}
 use Rattle.sig_base.specs.declared.method.CanonMethod.TheVariants.{C10, C10Comments, C11, C11Comments, Exc, ExcComments}
 use Rattle.sig_base.specs.declared.method.DigestMethod.{DigestMethod}
@@ -44,3 +44,12 @@ digest_method_of uri = identified digest_identifier uri (Sha1 ∷ Sha224 ∷ Sha
 
 abbrev pub mac_method_of : List ℕ → Option MacMethod
 mac_method_of uri = identified mac_identifier uri (HmacSha1 ∷ HmacSha224 ∷ HmacSha256 ∷ HmacSha384 ∷ HmacSha512 ∷ [])
+
+-- a canonicalization method that takes a PrefixList: Exclusive XML Canonicalization 1.0, section 4
+abbrev pub is_exclusive : CanonMethod → Bool
+is_exclusive C10 = false
+is_exclusive C10Comments = false
+is_exclusive C11 = false
+is_exclusive C11Comments = false
+is_exclusive Exc = true
+is_exclusive ExcComments = true

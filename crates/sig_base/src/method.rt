@@ -1,6 +1,6 @@
 //! The methods that a signature names, and the identifiers by which it names them.
 ghost use Rattle.std.specs.Prelude.{◌≡◌};
-ghost use Rattle.sig_base.specs.Methods.{canon_method_of, digest_method_of, mac_method_of};
+ghost use Rattle.sig_base.specs.Methods.{canon_method_of, digest_method_of, is_exclusive, mac_method_of};
 
 /// A canonicalization method (XML Signature 1.1 §6.5).
 #[derive(Clone, Copy, Debug, PartialEq, Eq, Drop)]
@@ -17,6 +17,15 @@ pub enum CanonMethod {
     Exc,
     /// Exclusive XML Canonicalization 1.0, with comments.
     ExcComments,
+}
+
+impl CanonMethod {
+    /// Whether the method takes a PrefixList (Exclusive XML Canonicalization 1.0 §4).
+    pub fn is_exclusive(self) -> bool
+        ensures { result ≡ is_exclusive self }
+    {
+        matches!(self, CanonMethod::Exc | CanonMethod::ExcComments)
+    }
 }
 
 /// A digest method (XML Signature 1.1 §6.2, FIPS 180-4).
