@@ -5,6 +5,3 @@ pub mod Shape
 pub mod Fields
 pub mod Values
 pub mod Ids
-pub mod FirstForm
-pub mod FirstParts
-pub mod FirstRows

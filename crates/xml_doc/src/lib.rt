@@ -9,14 +9,10 @@
 #![tactic(auto)]
 
 mod doc;
-mod first;
 mod ids;
 mod row;
 mod values;
 
 pub use doc::{Doc, OwnRows};
-pub use first::{
-    DIGEST_TEXT, FirstRefusal, OBJECT, SIGNED_INFO, VALUE_TEXT, first_form_is_exact, read_first,
-};
 pub use ids::IdAnswer;
 pub use row::{Kind, Row, RowList};

@@ -1,8 +1,0 @@
-use Rattle.std.proofs.Common.{append_assoc}
-use Rattle.xml_doc.specs.FirstRows.{tail_rows}
-use Rattle.xml_doc.proofs.FirstPushes.{on_ok}
-use Rattle.xml_doc.proofs.first.rows.push_tail.Goals as goal
-
-pub returns : goal.returns
-unfolding tail_rows
-returns c = on_ok c.push_text-2.result _ _ c.push_text-2.ensures (λ e. rw (e, c.in_ok-push_attribute.ensures, c.in_ok-push_element-2.ensures, c.in_ok-push_text.ensures, c.in_ok-push_element.ensures) (simp append_assoc))
