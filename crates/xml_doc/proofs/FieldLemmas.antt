@@ -92,7 +92,7 @@ module _ (rows : List RowOf) (w : IsWellShaped rows) where
         ]
       ]
 
-  no_namespace_behind : (x end : ℕ) → x < length rows → RunEnds rows (is_namespace_of rows x) (x + 1) end → (j : ℕ) → end ≤ j → j < length rows → is_namespace_of rows x j ≡ false
+  pub no_namespace_behind : (x end : ℕ) → x < length rows → RunEnds rows (is_namespace_of rows x) (x + 1) end → (j : ℕ) → end ≤ j → j < length rows → is_namespace_of rows x j ≡ false
   no_namespace_behind x end here r j ge lt = off _ (λ (t : is_namespace_of rows x j ≡ true).
       let parts = both (is_namespace (row_at rows j).kind) (row_at rows j).parent x t in
       let kind = namespace_is (row_at rows j).kind parts.0 in
@@ -105,7 +105,7 @@ module _ (rows : List RowOf) (w : IsWellShaped rows) where
             absurd (false≢true (sym (r.stop (omega arith)) ∙ and_from _ _ (ap is_namespace first) (eq-eqb _ x (up ∙ parts.1))))
       ])
 
-  no_attribute_behind : (x mid end : ℕ) → x < length rows → RunEnds rows (is_namespace_of rows x) (x + 1) mid → RunEnds rows (is_attribute_of rows x) mid end → (j : ℕ) → end ≤ j → j < length rows → is_attribute_of rows x j ≡ false
+  pub no_attribute_behind : (x mid end : ℕ) → x < length rows → RunEnds rows (is_namespace_of rows x) (x + 1) mid → RunEnds rows (is_attribute_of rows x) mid end → (j : ℕ) → end ≤ j → j < length rows → is_attribute_of rows x j ≡ false
   no_attribute_behind x mid end here n r j ge lt = off _ (λ (t : is_attribute_of rows x j ≡ true).
       let parts = both (is_attribute (row_at rows j).kind) (row_at rows j).parent x t in
       let field = field_of_attribute (row_at rows j).kind parts.0 in
@@ -125,6 +125,21 @@ module _ (rows : List RowOf) (w : IsWellShaped rows) where
   not_of_earlier : (x k : ℕ) → 1 ≤ k → k < x + 1 → k < length rows → (b : Bool) → (b && eqb (row_at rows k).parent x) ≡ false
   not_of_earlier x k pos le lt b = off _ (λ t. let up = (both b (row_at rows k).parent x t).1 in let before = w.parent_before k pos lt in omega arith)
 
+  -- before an element's namespace rows, which begin right behind it, there is none of them
+  pub no_namespace_before : (x k : ℕ) → x < length rows → k < x + 1 → is_namespace_of rows x k ≡ false
+  no_namespace_before x zero here lt = ap (λ (kind : Kind). is_namespace kind && eqb (row_at rows 0).parent x) w.root_kind
+  no_namespace_before x (suc k) here lt = not_of_earlier x (suc k) (omega arith) lt (omega arith) (is_namespace (row_at rows (suc k)).kind)
+
+  -- nor is there an attribute row of it before the end of its namespace rows
+  pub no_attribute_before : (x mid k : ℕ) → x < length rows → RunEnds rows (is_namespace_of rows x) (x + 1) mid → k < mid → is_attribute_of rows x k ≡ false
+  no_attribute_before x mid zero here n lt = ap (λ (kind : Kind). is_attribute kind && eqb (row_at rows 0).parent x) w.root_kind
+  no_attribute_before x mid (suc k) here n lt = elim (cases_lt (suc k) (x + 1)) [
+    | inl earlier ↦ not_of_earlier x (suc k) (omega arith) earlier (omega arith) (is_attribute (row_at rows (suc k)).kind)
+    | inr inside ↦
+        let is = (both (is_namespace (row_at rows (suc k)).kind) (row_at rows (suc k)).parent x (n.run (suc k) lt inside)).0 in
+        ap (λ (b : Bool). b && eqb (row_at rows (suc k)).parent x) (namespace_no_attribute (row_at rows (suc k)).kind is)
+  ]
+
   pub own_rows_stand : (x mid end : ℕ) → x < length rows → RunEnds rows (is_namespace_of rows x) (x + 1) mid → RunEnds rows (is_attribute_of rows x) mid end → OwnRowsStand rows x mid end
   own_rows_stand x mid end here n r =
       let from = n.reached in
@@ -135,16 +150,11 @@ module _ (rows : List RowOf) (w : IsWellShaped rows) where
         ordered = r.reached;
         within = r.within;
         namespaces = passing_between (is_namespace_of rows x) (length rows) (x + 1) mid (omega arith) n.reached n.within
-            (λ (k : ℕ) ge lt. not_of_earlier x k ge lt (omega arith) (is_namespace (row_at rows k).kind))
+            (λ (k : ℕ) ge lt. no_namespace_before x k here lt)
             (λ (k : ℕ) ge lt. n.run k lt ge)
             (no_namespace_behind x mid here n);
         attributes = passing_between (is_attribute_of rows x) (length rows) mid end (omega arith) r.reached r.within
-            (λ (k : ℕ) ge lt. elim (cases_lt k (x + 1)) [
-              | inl earlier ↦ not_of_earlier x k ge earlier (omega arith) (is_attribute (row_at rows k).kind)
-              | inr inside ↦
-                  let is = (both (is_namespace (row_at rows k).kind) (row_at rows k).parent x (n.run k lt inside)).0 in
-                  ap (λ (b : Bool). b && eqb (row_at rows k).parent x) (namespace_no_attribute (row_at rows k).kind is)
-            ])
+            (λ (k : ℕ) ge lt. no_attribute_before x mid k here n lt)
             (λ (k : ℕ) ge lt. r.run k lt ge)
             (no_attribute_behind x mid end here n r);
       }

@@ -1,7 +1,9 @@
+pub mod AxisLemmas
 pub mod FieldLemmas
 pub mod IdLemmas
 pub mod Numbers
 pub mod RowLemmas
+pub mod SearchLemmas
 pub mod ShapeLemmas
 pub mod ShapeTests
 pub mod Slices

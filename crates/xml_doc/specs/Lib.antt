@@ -5,3 +5,5 @@ pub mod Shape
 pub mod Fields
 pub mod Values
 pub mod Ids
+pub mod Axes
+pub mod Searches

@@ -1,5 +1,6 @@
 //! The document, and what its rows say.
 ghost use Rattle.std.specs.Prelude.{◌≡◌, true, ◌+◌, ◌<◌, ◌^◌, length, map, IfOk, IfSome, slice_get, option_map, Some, None, MatchOption, ◌≤◌, ◌⊎◌};
+ghost use Rattle.xml_doc.specs.Kinds.{is_field};
 ghost use Rattle.xml_doc.specs.Rows.{row_of};
 ghost use Rattle.xml_doc.specs.Shape.{IsWellShaped, row_at};
 ghost use Rattle.xml_doc.specs.Values.{subtree};
@@ -154,7 +155,7 @@ impl<'a> Doc<'a> {
     }
 
     /// Whether row `y` is a namespace row of `e`.
-    fn is_namespace_of(&self, e: u32, y: u32) -> bool
+    pub(crate) fn is_namespace_of(&self, e: u32, y: u32) -> bool
         requires { y < length self.now }
         ensures { result ≡ is_namespace_of self.now e y }
     {
@@ -162,15 +163,23 @@ impl<'a> Doc<'a> {
     }
 
     /// Whether row `y` is an attribute row of `e`.
-    fn is_attribute_of(&self, e: u32, y: u32) -> bool
+    pub(crate) fn is_attribute_of(&self, e: u32, y: u32) -> bool
         requires { y < length self.now }
         ensures { result ≡ is_attribute_of self.now e y }
     {
         self.kind(y) == Kind::Attribute && self.above(y) == e
     }
 
+    /// Whether row `y` is an attribute or a namespace row.
+    pub(crate) fn is_field(&self, y: u32) -> bool
+        requires { y < length self.now }
+        ensures { result ≡ is_field (row_at self.now y).kind }
+    {
+        matches!(self.kind(y), Kind::Namespace | Kind::Attribute)
+    }
+
     /// The number behind the namespace rows of `e`.
-    fn namespaces_end(&self, e: u32) -> u32
+    pub(crate) fn namespaces_end(&self, e: u32) -> u32
         requires { e < length self.now }
         ensures { RunEnds self.now (is_namespace_of self.now e) (e + 1) result }
     {
@@ -183,7 +192,7 @@ impl<'a> Doc<'a> {
     }
 
     /// The number behind the attribute rows of `e`, which stand from `from` on.
-    fn attributes_end(&self, e: u32, from: u32) -> u32
+    pub(crate) fn attributes_end(&self, e: u32, from: u32) -> u32
         requires { from ≤ length self.now }
         ensures { RunEnds self.now (is_attribute_of self.now e) from result }
     {

@@ -8,11 +8,15 @@
 //! definition, `IsWellShaped` of `specs/Shape.antt`, which every `Doc` keeps.
 #![tactic(auto)]
 
+mod axis;
 mod doc;
 mod ids;
 mod row;
 mod values;
+mod walk;
 
+pub use axis::Axis;
 pub use doc::{Doc, OwnRows};
 pub use ids::IdAnswer;
 pub use row::{Kind, Row, RowList};
+pub use walk::AxisWalk;
