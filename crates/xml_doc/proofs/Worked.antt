@@ -1,10 +1,12 @@
--- The definitions at one document, computed:
+-- The definitions at two documents, computed. The first is
 --     <a xmlns:p="u:p" Id="k"><b id="k" p:id="n">x<!--z--></b>y</a>
 use Rattle.std.proofs.Common.{◌≡◌, ℕ, false, List, [], ◌∷◌, refl}
 use Rattle.std.specs.Prelude.{codes}
+use Rattle.xml_doc.specs.Axes.{axis_rows}
+use Rattle.xml_doc.specs.declared.axis.Axis.TheVariants.{Child, Descendant, Parent, Ancestor, FollowingSibling, PrecedingSibling, Following, Preceding, Attribute as AttributeAxis, Namespace as NamespaceAxis, SelfNode, DescendantOrSelf, AncestorOrSelf}
 use Rattle.xml_doc.specs.declared.ids.IdAnswer.TheVariants.{None, Several}
 use Rattle.xml_doc.specs.declared.row.Kind.{Kind}
-use Rattle.xml_doc.specs.declared.row.Kind.TheVariants.{Root, Element, Namespace, Attribute, Text, Comment}
+use Rattle.xml_doc.specs.declared.row.Kind.TheVariants.{Root, Element, Namespace, Attribute, Text, Comment, Instruction}
 use Rattle.xml_doc.specs.Fields.{namespace_rows, attribute_rows}
 use Rattle.xml_doc.specs.Ids.{answer_of, bearers}
 use Rattle.xml_doc.specs.Rows.{RowOf}
@@ -81,3 +83,116 @@ bearers_of_k = refl
 
 bearers_of_n : answer_of (bearers small (codes "n")) ≡ None
 bearers_of_n = refl
+
+-- The second, for the axes: <a><!--u--><?t v?><b k="w"><c>x</c>y</b>z<d></d></a>
+abbrev for_axes : List RowOf
+for_axes =
+    record { kind = Root; parent = 0; last = 14; prefix_text = []; local_name = []; uri = []; value = []; tag_from = 0; body_from = 0; body_until = 0; empty_tag = false }
+    ∷ element 0 14 (codes "a") 0 3 48
+    ∷ leaf Namespace 2 1 [] (codes "xml") [] xml_name
+    ∷ leaf Comment 3 1 [] [] [] (codes "u")
+    ∷ leaf Instruction 4 1 [] (codes "t") [] (codes "v")
+    ∷ element 1 11 (codes "b") 18 27 36
+    ∷ leaf Namespace 6 5 [] (codes "xml") [] xml_name
+    ∷ leaf Attribute 7 5 [] (codes "k") [] (codes "w")
+    ∷ element 5 10 (codes "c") 27 30 31
+    ∷ leaf Namespace 9 8 [] (codes "xml") [] xml_name
+    ∷ leaf Text 10 8 [] [] [] (codes "x")
+    ∷ leaf Text 11 5 [] [] [] (codes "y")
+    ∷ leaf Text 12 1 [] [] [] (codes "z")
+    ∷ element 1 14 (codes "d") 41 44 44
+    ∷ leaf Namespace 14 13 [] (codes "xml") [] xml_name
+    ∷ []
+
+is_shaped_for_axes : IsWellShaped for_axes
+is_shaped_for_axes = shaped_by_tests for_axes record {
+  root = refl;
+  parent_before = refl;
+  last = refl;
+  ended = refl;
+  parents = refl;
+  fields_first = refl;
+  one_root = refl;
+  namespaces_first = refl;
+  namespace_order = refl;
+  attribute_order = refl;
+  inherits = refl;
+  xml_bound = refl;
+  default_named = refl;
+  document_element = refl;
+  fit = refl;
+  text_in_element = refl;
+  texts_apart = refl;
+} (text_some_by for_axes refl)
+
+-- from b
+child_of_b : axis_rows Child for_axes 5 ≡ 8 ∷ 11 ∷ []
+child_of_b = refl
+
+descendant_of_b : axis_rows Descendant for_axes 5 ≡ 8 ∷ 10 ∷ 11 ∷ []
+descendant_of_b = refl
+
+parent_of_b : axis_rows Parent for_axes 5 ≡ 1 ∷ []
+parent_of_b = refl
+
+ancestor_of_b : axis_rows Ancestor for_axes 5 ≡ 1 ∷ 0 ∷ []
+ancestor_of_b = refl
+
+following_sibling_of_b : axis_rows FollowingSibling for_axes 5 ≡ 12 ∷ 13 ∷ []
+following_sibling_of_b = refl
+
+preceding_sibling_of_b : axis_rows PrecedingSibling for_axes 5 ≡ 4 ∷ 3 ∷ []
+preceding_sibling_of_b = refl
+
+following_of_b : axis_rows Following for_axes 5 ≡ 12 ∷ 13 ∷ []
+following_of_b = refl
+
+preceding_of_b : axis_rows Preceding for_axes 5 ≡ 4 ∷ 3 ∷ []
+preceding_of_b = refl
+
+attribute_of_b : axis_rows AttributeAxis for_axes 5 ≡ 7 ∷ []
+attribute_of_b = refl
+
+namespace_of_b : axis_rows NamespaceAxis for_axes 5 ≡ 6 ∷ []
+namespace_of_b = refl
+
+self_node_of_b : axis_rows SelfNode for_axes 5 ≡ 5 ∷ []
+self_node_of_b = refl
+
+descendant_or_self_of_b : axis_rows DescendantOrSelf for_axes 5 ≡ 5 ∷ 8 ∷ 10 ∷ 11 ∷ []
+descendant_or_self_of_b = refl
+
+ancestor_or_self_of_b : axis_rows AncestorOrSelf for_axes 5 ≡ 5 ∷ 1 ∷ 0 ∷ []
+ancestor_or_self_of_b = refl
+
+-- from the text in c: what b's siblings are to it, and neither its ancestors nor attribute and namespace nodes
+following_of_text : axis_rows Following for_axes 10 ≡ 11 ∷ 12 ∷ 13 ∷ []
+following_of_text = refl
+
+preceding_of_text : axis_rows Preceding for_axes 10 ≡ 4 ∷ 3 ∷ []
+preceding_of_text = refl
+
+ancestor_or_self_of_text : axis_rows AncestorOrSelf for_axes 10 ≡ 10 ∷ 8 ∷ 5 ∷ 1 ∷ 0 ∷ []
+ancestor_or_self_of_text = refl
+
+-- from the attribute of b: no siblings, though b's content follows; it is its own descendant-or-self, and b is its parent
+parent_of_attribute : axis_rows Parent for_axes 7 ≡ 5 ∷ []
+parent_of_attribute = refl
+
+following_sibling_of_attribute : axis_rows FollowingSibling for_axes 7 ≡ []
+following_sibling_of_attribute = refl
+
+preceding_sibling_of_attribute : axis_rows PrecedingSibling for_axes 7 ≡ []
+preceding_sibling_of_attribute = refl
+
+following_of_attribute : axis_rows Following for_axes 7 ≡ 8 ∷ 10 ∷ 11 ∷ 12 ∷ 13 ∷ []
+following_of_attribute = refl
+
+preceding_of_attribute : axis_rows Preceding for_axes 7 ≡ 4 ∷ 3 ∷ []
+preceding_of_attribute = refl
+
+descendant_or_self_of_attribute : axis_rows DescendantOrSelf for_axes 7 ≡ 7 ∷ []
+descendant_or_self_of_attribute = refl
+
+ancestor_or_self_of_attribute : axis_rows AncestorOrSelf for_axes 7 ≡ 7 ∷ 5 ∷ 1 ∷ 0 ∷ []
+ancestor_or_self_of_attribute = refl

@@ -5,13 +5,15 @@
 //! linked by pointers: a row names its parent and the last row of its subtree, so that a subtree is a range.
 //!
 //! [`RowList`] collects rows, and [`Doc`] lends those that are the rows of a document. That they are so is one
-//! definition, `IsWellShaped` of `specs/Shape.antt`, which every `Doc` keeps.
+//! definition, `IsWellShaped` of `specs/Shape.antt`, which every `Doc` keeps. [`Doc::axis`] walks along an axis of XPath.
 #![tactic(auto)]
 
 mod axis;
 mod doc;
 mod ids;
 mod row;
+#[cfg(test)]
+mod tests;
 mod values;
 mod walk;
 
