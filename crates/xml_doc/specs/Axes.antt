@@ -1,7 +1,7 @@
--- The axes: XPath 1.0, section 2.2. `on_axis a rows x y` tells whether row y stands on axis a of row x. A row's descendants are
--- those behind it up to its `last` that are no attribute and no namespace node (XPath 1.0, section 5: these have a parent, and are
--- no children of it). So such a node is on no axis but `self`, `descendant-or-self` and `ancestor-or-self` from itself, and
--- `attribute` or `namespace` from its element.
+-- The axes: XPath 1.0, section 2.2. `on_axis a rows x y` tells whether row y stands on axis a of row x. A row's
+-- descendants are those behind it up to its `last` that are no attribute and no namespace node (XPath 1.0, section 5:
+-- these have a parent, and are no children of it). So such a node is on no axis but `self`, `descendant-or-self` and
+-- `ancestor-or-self` from itself, and `attribute` or `namespace` from its element.
 use Rattle.std.specs.Prelude.{ℕ, Bool, true, false, not, cond, ◌&&◌, ◌||◌, ◌==◌, nat_lt, nat_le, List, length, reverse}
 use Rattle.std.specs.List.{filter, range_with_len}
 use Rattle.xml_doc.specs.Fields.{is_attribute_of, is_namespace_of}
@@ -19,14 +19,14 @@ is_field_at rows y = is_field (row_at rows y).kind
 abbrev pub is_child : List RowOf → ℕ → ℕ → Bool
 is_child rows x y = nat_lt 0 y && ((row_at rows y).parent == x) && not (is_field_at rows y)
 
--- y is a descendant of x: a child, or a child of a child and so on
-abbrev pub is_descendant : List RowOf → ℕ → ℕ → Bool
-is_descendant rows x y = nat_lt x y && nat_le y (row_at rows x).last && not (is_field_at rows y)
-
--- y is an ancestor of x: its parent, or the parent's parent and so on. That of an attribute or a namespace node begins with its
--- element
+-- y is an ancestor of x: its parent, or the parent's parent and so on. Those of an attribute or a namespace node begin
+-- with its element
 abbrev pub is_ancestor : List RowOf → ℕ → ℕ → Bool
 is_ancestor rows x y = nat_lt y x && nat_le x (row_at rows y).last
+
+-- y is a descendant of x: a child, or a child of a child and so on
+abbrev pub is_descendant : List RowOf → ℕ → ℕ → Bool
+is_descendant rows x y = is_ancestor rows y x && not (is_field_at rows y)
 
 -- x and y are children of one parent. An attribute or a namespace node has no siblings, and neither has the root
 abbrev pub are_siblings : List RowOf → ℕ → ℕ → Bool

@@ -79,21 +79,21 @@ impl<'a> Doc<'a> {
         0 < y && self.above(y) == x && !self.is_field(y)
     }
 
-    /// Whether `y` is a descendant of `x`.
-    fn is_descendant(&self, x: u32, y: u32) -> bool
-        requires x { x < length self.now }
-        requires y { y < length self.now }
-        ensures { result ≡ is_descendant self.now x y }
-    {
-        x < y && y <= self.last(x) && !self.is_field(y)
-    }
-
     /// Whether `y` is an ancestor of `x`.
     fn is_ancestor(&self, x: u32, y: u32) -> bool
         requires { y < length self.now }
         ensures { result ≡ is_ancestor self.now x y }
     {
         y < x && x <= self.last(y)
+    }
+
+    /// Whether `y` is a descendant of `x`.
+    fn is_descendant(&self, x: u32, y: u32) -> bool
+        requires x { x < length self.now }
+        requires y { y < length self.now }
+        ensures { result ≡ is_descendant self.now x y }
+    {
+        self.is_ancestor(y, x) && !self.is_field(y)
     }
 
     /// Whether both are children of one parent.

@@ -12,7 +12,19 @@ const XML_NAME: &str = "http://www.w3.org/XML/1998/namespace";
 
 /// A row without a prefix, a namespace name and tags.
 fn row<'a>(kind: Kind, parent: u32, last: u32, local_name: &'a str, value: &'a str) -> Row<'a>
-    ensures { row_of result ≡ record { kind = kind; parent = parent; last = last; prefix_text = []; local_name = local_name.now; uri = []; value = value.now; tag_from = 0; body_from = 0; body_until = 0; empty_tag = false } }
+    ensures { row_of result ≡ record {
+      kind = kind;
+      parent = parent;
+      last = last;
+      prefix_text = [];
+      local_name = local_name.now;
+      uri = [];
+      value = value.now;
+      tag_from = 0;
+      body_from = 0;
+      body_until = 0;
+      empty_tag = false;
+    } }
 {
     Row {
         kind,
