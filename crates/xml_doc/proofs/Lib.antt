@@ -1,3 +1,4 @@
+pub mod AxisLaws
 pub mod AxisLemmas
 pub mod FieldLemmas
 pub mod IdLemmas

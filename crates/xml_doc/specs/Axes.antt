@@ -19,8 +19,8 @@ is_field_at rows y = is_field (row_at rows y).kind
 abbrev pub is_child : List RowOf → ℕ → ℕ → Bool
 is_child rows x y = nat_lt 0 y && ((row_at rows y).parent == x) && not (is_field_at rows y)
 
--- y is an ancestor of x: its parent, or the parent's parent and so on. Those of an attribute or a namespace node begin
--- with its element
+-- y is an ancestor of x: its parent, or the parent's parent and so on, as a law of AxisLaws.antt says. Those of an
+-- attribute or a namespace node begin with its element
 abbrev pub is_ancestor : List RowOf → ℕ → ℕ → Bool
 is_ancestor rows x y = nat_lt y x && nat_le x (row_at rows y).last
 

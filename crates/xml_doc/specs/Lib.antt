@@ -6,4 +6,5 @@ pub mod Fields
 pub mod Values
 pub mod Ids
 pub mod Axes
+pub mod AxisLaws
 pub mod Searches

@@ -11,6 +11,7 @@
 mod axis;
 mod doc;
 mod ids;
+mod laws;
 mod row;
 #[cfg(test)]
 mod tests;
@@ -20,5 +21,6 @@ mod walk;
 pub use axis::Axis;
 pub use doc::{Doc, OwnRows};
 pub use ids::IdAnswer;
+pub use laws::{ancestors_are_parents, five_axes_partition};
 pub use row::{Kind, Row, RowList};
 pub use walk::AxisWalk;
