@@ -1,10 +1,11 @@
 //! Qualified names (Namespaces in XML 1.0 §3 and §4).
-ghost use Rattle.std.specs.Prelude.{◌≡◌, [], ◌∷◌, option_map, IfNone, IfSome};
+ghost use Rattle.std.specs.Prelude.{◌≡◌, option_map};
 ghost use Rattle.std.specs.List.{list_all};
 ghost use Rattle.std.specs.Str.{chars};
 ghost use Rattle.xml_names.specs.Names.{SplitsQNames, begins_part, is_ncname, is_part_char, qname_of};
 
 use crate::class::{is_name_char, is_name_start};
+use sig_base::split_first;
 
 /// Whether the character may stand in an NCName.
 fn is_part_char(c: char) -> bool
@@ -18,18 +19,6 @@ fn are_part_chars(text: &str) -> bool
     ensures { result ≡ list_all is_part_char (chars text.now) }
 {
     text.chars().all(|c| is_part_char(c))
-}
-
-/// The first character, and the rest.
-fn split_first(text: &str) -> Option<(char, &str)>
-    ensures none { IfNone result (chars text.now ≡ []) }
-    ensures some { IfSome result (λ x. chars text.now ≡ x.0 ∷ chars x.1.now) }
-{
-    let mut chars = text.chars();
-    match chars.next() {
-        Some(c) => Some((c, chars.as_str())),
-        None => None,
-    }
 }
 
 /// Whether an NCName may begin as the text does.

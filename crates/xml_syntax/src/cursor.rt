@@ -1,13 +1,13 @@
 //! What is left of a document.
-ghost use Rattle.std.specs.Prelude.{◌≡◌, ◌+◌, ◌^◌, ◌<◌, ◌≤◌, List, [], ◌∷◌, false, length, IfNone, IfSome};
+ghost use Rattle.std.specs.Prelude.{◌≡◌, ◌+◌, ◌^◌, ◌<◌, List, false, length, IfSome};
 ghost use Rattle.std.specs.Str.{chars};
-ghost use Rattle.std.specs.Char.{len_utf8};
 ghost use Rattle.xml_syntax.specs.Class.{test_of};
 ghost use Rattle.xml_syntax.specs.Characters.{Placed, placed, characters, first_code, first, behind_first, begins, begins_with, passes_next, is_empty};
 ghost use Rattle.xml_syntax.specs.Reading.{literal_of};
 ghost use Rattle.xml_syntax.specs.Seen.{Tells};
 
 use crate::class::Class;
+use sig_base::split_first;
 use std::marker::Model;
 
 /// What is left of a document, as characters with their offsets, where CR LF and a lone CR are read as LF.
@@ -133,19 +133,5 @@ pub fn passes_over(cursor: &mut Cursor<'_>, wanted: &[char]) -> bool
                 }
             }
         },
-    }
-}
-
-// The first character, and the rest.
-fn split_first(text: &str) -> Option<(char, &str)>
-    ensures none { IfNone result (chars text.now ≡ []) }
-    ensures some { IfSome result (λ x. chars text.now ≡ x.0 ∷ chars x.1.now) }
-    ensures len { IfSome result (λ x. length text.now ≡ len_utf8 x.0 + length x.1.now) }
-    ensures small { IfSome result (λ x. len_utf8 x.0 ≤ 4) }
-{
-    let mut chars = text.chars();
-    match chars.next() {
-        Some(c) => Some((c, chars.as_str())),
-        None => None,
     }
 }

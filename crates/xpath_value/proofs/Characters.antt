@@ -14,10 +14,6 @@ use Rattle.std.proofs.lemmas.List.Sums.{suffix_len-le-length}
 use Rattle.std.proofs.Math.Seq.{take-append_seam, drop-append_seam}
 use Rattle.xpath_value.specs.Characters.{is_space, stripped_start, stripped_end}
 
-pub nil_from_length : (xs : List ℕ) → length xs ≡ 0 → chars xs ≡ []
-nil_from_length [] e = chars-nil
-nil_from_length (x ∷ xs) e = absurd (omega arith)
-
 -- the characters of a text before whose last one another text stands
 pub chars_before_last : (text before : List ℕ) (c : ℕ) → IsUtf8 text → IsUtf8 before → text ≡ before ++ encode_utf8 c → chars text ≡ chars before ++ c ∷ []
 chars_before_last text before c u v e =

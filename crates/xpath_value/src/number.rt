@@ -5,8 +5,8 @@ ghost use Rattle.xpath_value.specs.Characters.{is_digit};
 ghost use Rattle.std.specs.Str.{chars};
 ghost use Rattle.xpath_value.specs.Numbers.{IsValue, IsWithin, are_parts, fraction_part, greatest, number_behind_sign, number_of, signed, text_of, whole_part};
 
-use crate::scan::{are_digits, are_zeros, is_empty, split_first, strip_space};
-use sig_base::{NoMemory, Text};
+use crate::scan::{are_digits, are_zeros, is_empty, strip_space};
+use sig_base::{NoMemory, Text, split_first};
 use std::alloc::Global;
 
 /// The greatest number, 2^53 - 1. The least is its negation.

@@ -4,6 +4,8 @@ ghost use Rattle.std.specs.List.{list_all};
 ghost use Rattle.std.specs.Str.{chars};
 ghost use Rattle.xpath_value.specs.Characters.{is_digit, is_empty, is_space, is_zero, stripped, stripped_end, stripped_start};
 
+use sig_base::split_first;
+
 /// Whether the character is white space of XML (XML 1.0 §2.3).
 pub(crate) fn is_space(c: char) -> bool
     ensures { result ≡ is_space c }
@@ -30,19 +32,6 @@ pub(crate) fn are_zeros(text: &str) -> bool
     ensures { result ≡ list_all is_zero (chars text.now) }
 {
     text.chars().all(|c| c == '0')
-}
-
-/// The first character, and the rest.
-pub(crate) fn split_first(text: &str) -> Option<(char, &str)>
-    ensures none { IfNone result (chars text.now ≡ []) }
-    ensures some { IfSome result (λ x. chars text.now ≡ x.0 ∷ chars x.1.now) }
-    ensures shorter { IfSome result (λ x. length x.1.now < length text.now) }
-{
-    let mut chars = text.chars();
-    match chars.next() {
-        Some(c) => Some((c, chars.as_str())),
-        None => None,
-    }
 }
 
 /// The last character, and what stands before it.

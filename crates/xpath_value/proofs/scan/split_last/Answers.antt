@@ -1,6 +1,7 @@
 use Rattle.std.proofs.Common.{◌≡◌, ◌++◌, length, ap, sym, ◌∙◌, List, ℕ, arith}
 use Rattle.std.specs.Prelude.{encode_utf8}
-use Rattle.xpath_value.proofs.Characters.{chars_before_last, nil_from_length}
+use Rattle.sig_base.proofs.CharacterLemmas.{nil_from_length}
+use Rattle.xpath_value.proofs.Characters.{chars_before_last}
 use Rattle.xpath_value.proofs.scan.split_last.Goals as goal
 
 parts : (text given rest before : List ℕ) (c : ℕ) → given ≡ rest ++ encode_utf8 c → given ≡ text → before ≡ rest → text ≡ before ++ encode_utf8 c
