@@ -1,0 +1,10 @@
+pub mod Names
+pub mod Reading
+pub mod Simple
+pub mod Lengths
+pub mod Prefixes
+pub mod Fields
+pub mod Signatures
+pub mod Keys
+pub mod Holds
+pub mod Fits

@@ -1,0 +1,19 @@
+//! The fields of a signature, by the grammar of its elements (XML Signature 1.1 §4).
+//!
+//! An element is read in document order: its attributes, then its children, one behind the other. The definitions in
+//! `specs/Fields.antt` read like the grammar, a line for each child; the first refusal that is met is the answer.
+#![tactic(auto)]
+
+mod fields;
+mod key;
+mod names;
+mod read;
+mod refusal;
+mod signatures;
+
+pub use fields::{Fields, Filter, FilterList, Reference, ReferenceList, Step, StepList};
+pub use key::{KeyChoice, Question, choose_key};
+pub use names::ElementName;
+pub use read::read_fields;
+pub use refusal::FieldRefusal;
+pub use signatures::nth_signature;
