@@ -4,6 +4,7 @@
 //! `specs/Fields.antt` read like the grammar, a line for each child; the first refusal that is met is the answer.
 #![tactic(auto)]
 
+mod element;
 mod fields;
 mod key;
 mod names;
