@@ -1,4 +1,0 @@
-pub mod FirstStands
-pub mod FirstTests
-pub mod FirstTexts
-mod Worked

@@ -1,3 +1,4 @@
-pub mod FirstLike
-pub mod FirstTest
-pub mod Validation
+pub mod Targets
+pub mod Views
+pub mod Outcome
+pub mod Laws

@@ -1,11 +1,13 @@
 //! Core validation (XML Signature 1.1 §3.2): whether the HMAC over the canonical SignedInfo is the signature value, and
 //! whether the digest of each Reference's view is its DigestValue.
+//!
+//! The signature is validated first, over the one SignedInfo from which all methods, lengths and digests are read.
 #![tactic(auto)]
 
-mod first;
-mod form;
+mod refusal;
 mod report;
+mod validate;
 
-pub use first::first_validate;
-pub use form::{first_documents_are_like, first_rows};
+pub use refusal::{RefRefusal, ValidateRefusal};
 pub use report::Report;
+pub use validate::validate;
