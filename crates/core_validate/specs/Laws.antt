@@ -1,5 +1,5 @@
 -- When a validation is valid: XML Signature 1.1, section 3.2.
-use Rattle.std.specs.Prelude.{◌≡◌, ◌↔◌, ◌&&◌, ◌≤◌, ℕ, List, [], ◌∷◌, length, map, Bool, true, false, Result, Ok, Err}
+use Rattle.std.specs.Prelude.{◌≡◌, ◌↔◌, ◌&&◌, ◌≤◌, ℕ, List, [], ◌∷◌, length, map, Bool, true, false, Ok}
 use Rattle.xml_doc.specs.Rows.{RowOf}
 use Rattle.dsig_fields.specs.Holds.{digest_holds, signature_holds}
 use Rattle.dsig_fields.specs.declared.fields.Fields.{Fields}
@@ -22,4 +22,4 @@ ValidExactly =
     → length (canonical_signed_info rows fields) ≤ octet_limit
     → views_of rows fields.references ≡ Ok views
     → (verdict rows keep fields key ≡ Ok (report.Valid (record { lengths = map length views; octets = kept_if keep views })))
-      ↔ ((signature_holds fields.mac fields.bits key (canonical_signed_info rows fields) fields.value && references_hold fields.references views) ≡ true)
+    ↔ ((signature_holds fields.mac fields.bits key (canonical_signed_info rows fields) fields.value && references_hold fields.references views) ≡ true)

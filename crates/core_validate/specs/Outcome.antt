@@ -2,7 +2,6 @@
 use Rattle.std.specs.Prelude.{◌≡◌, ◌==◌, ℕ, ◌+◌, ◌&&◌, nat_le, List, [], ◌∷◌, length, map, Bool, not, Option, Some, None, is_some, Result, Ok, Err, if◌then◌else◌}
 use Rattle.std.specs.List.{list_all}
 use Rattle.xml_doc.specs.Rows.{RowOf}
-use Rattle.digests_hmac.specs.KeyEntries.{KeyEntry}
 use Rattle.c14n_methods.specs.Methods.{is_offered}
 use Rattle.dsig_fields.specs.Fields.{fields_of}
 use Rattle.dsig_fields.specs.Holds.{digest_holds, is_long_enough, is_mac_value, value_bits}
@@ -74,7 +73,7 @@ or_no_signature (Some x) = Ok x
 unfoldable pub outcome : List RowOf → QuestionOf → Result Report ValidateRefusal
 outcome rows question =
     and_then (or_no_signature (nth_signature rows question.index))
-        (λ x. and_then (with_cause refusal.Fields (fields_of rows x)) (fields_outcome rows question))
+    (λ x. and_then (with_cause refusal.Fields (fields_of rows x)) (fields_outcome rows question))
 
 -- an answer is the outcome, unless it is want of memory
 abbrev pub Refuses : {A : Type 0} → ValidateRefusal → Result A ValidateRefusal → Type 0

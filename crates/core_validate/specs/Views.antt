@@ -69,7 +69,7 @@ unfoldable pub views_behind : List RowOf → (total number : ℕ) → List Refer
 views_behind rows total number [] = Ok []
 views_behind rows total number (reference ∷ more) =
     and_then (with_cause (refusal.Reference number) (next_view rows total reference))
-        (λ view. and_then (views_behind rows (total + length view) (number + 1) more) (λ others. Ok (view ∷ others)))
+    (λ view. and_then (views_behind rows (total + length view) (number + 1) more) (λ others. Ok (view ∷ others)))
 
 -- the views of all References
 abbrev pub views_of : List RowOf → List Reference → Result (List (List ℕ)) ValidateRefusal

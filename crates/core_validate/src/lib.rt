@@ -6,8 +6,8 @@
 
 mod refusal;
 mod report;
-mod validate;
+mod validation;
 
 pub use refusal::{RefRefusal, ValidateRefusal};
 pub use report::Report;
-pub use validate::validate;
+pub use validation::validate;
