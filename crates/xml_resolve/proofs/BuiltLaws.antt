@@ -14,20 +14,9 @@ use Rattle.xml_resolve.specs.Rows.{Binding, Ordered, with_binding, with_all, fir
 use Rattle.xml_resolve.specs.InScope.{AreFaultlessAbove, bindings_above}
 use Rattle.xml_resolve.specs.Steps.{key_cmp}
 use Rattle.xml_resolve.specs.Table.{Stack, no_stack, parent_of, bindings_of, pushed, popped, bound_by, is_declaring, declares, with_attribute, bindings_behind, ordered_behind, tag_rows, closed, built}
+use Rattle.xml_syntax.proofs.Runs.{bind_some, cond_some, some_is}
 use Rattle.xml_resolve.proofs.ResolveLaws.{bind_map, if_map, element_cong, named_cong}
 use Rattle.xml_resolve.proofs.OrderLaws.{bindings_are, are_faultless}
-
--- ---- steps that give something
-pub bind_some : {A B : Type 0} (o : Option A) (f : A → Option B) (y : B) → (o >>= f) ≡ Some y → (x : A) × (o ≡ Some x) × (f x ≡ Some y)
-bind_some None f y e = absurd cc
-bind_some (Some x) f y e = (x, refl, e)
-
-pub cond_some : {A : Type 0} (b : Bool) (o : Option A) (y : A) → cond b o None ≡ Some y → (b ≡ true) × (o ≡ Some y)
-cond_some true o y e = (refl, e)
-cond_some false o y e = absurd cc
-
-pub some_is : {A : Type 0} (x y : A) → Some x ≡ Some y → x ≡ y
-some_is x y e = cc
 
 -- ---- attributes
 no_declaration : (o : Option (List ℕ × List ℕ)) (bs : List Binding) (value : List ℕ) → is_declaring o ≡ false → with_attribute bs o value ≡ bs

@@ -1,6 +1,6 @@
 -- What is true of the resolved tree of a document.
 use Rattle.std.proofs.Common.{◌≡◌, ◌≢◌, ℕ, Bool, true, false, not, ◌&&◌, List, [], ◌∷◌, Some, refl, sym, ap, subst, ◌∙◌}
-use Rattle.std.proofs.lemmas.Bool.{false≢true}
+use Rattle.std.proofs.lemmas.Bool.{and_parts, false≢true, not-true}
 use Rattle.xml_names.specs.Names.{is_ncname}
 use Rattle.xml_names.specs.Scopes.{is_empty}
 use Rattle.xml_syntax.specs.Tree.{Content, nothing, text, comment, instruction, element}
@@ -8,7 +8,8 @@ use Rattle.xml_resolve.specs.Documents.{begins_text, are_texts_joined, is_misc, 
 use Rattle.xml_resolve.specs.InScope.{AreFaultless}
 use Rattle.xml_resolve.specs.Resolve.{Above, Resolved, nothing_in, text_in, comment_in, instruction_in, element_in, resolve}
 use Rattle.xml_resolve.proofs.OrderLaws.{are_faultless}
-use Rattle.xml_resolve.proofs.BuiltLaws.{bind_some, cond_some, some_is, element_parts}
+use Rattle.xml_syntax.proofs.Runs.{bind_some, cond_some, some_is}
+use Rattle.xml_resolve.proofs.BuiltLaws.{element_parts}
 
 abbrev pub begins_text_in : Resolved → Bool
 begins_text_in nothing_in = false
@@ -39,14 +40,6 @@ HasOne (comment_in w k) = HasOne k
 HasOne (instruction_in target w k) = HasOne k
 HasOne (element_in tag inner until k) = IsMisc k
 
-and_true : (a b : Bool) → (a && b) ≡ true → (a ≡ true) × (b ≡ true)
-and_true true b e = (refl, e)
-and_true false b e = absurd (false≢true e)
-
-not_true : (a : Bool) → not a ≡ true → a ≡ false
-not_true true e = absurd (false≢true e)
-not_true false e = refl
-
 some_text : (w : List ℕ) → is_empty w ≡ false → w ≢ []
 some_text [] e = absurd (false≢true (sym e))
 some_text (c ∷ w) e = λ is. absurd cc
@@ -67,9 +60,9 @@ unfolding resolve
 fine_of nothing above r e h = subst Fine (some_is nothing_in r e) tt
 fine_of (text w k) above r e h =
     let m = bind_some (resolve above k) _ r e in
-    let a = and_true (not (is_empty w)) _ h in
-    let b = and_true (not (begins_text k)) _ a.1 in
-    subst Fine (some_is _ r m.2) (some_text w (not_true (is_empty w) a.0), (begins_is k above m.0 m.1 ∙ not_true (begins_text k) b.0, fine_of k above m.0 m.1 b.1))
+    let a = and_parts (not (is_empty w)) _ h in
+    let b = and_parts (not (begins_text k)) _ a.1 in
+    subst Fine (some_is _ r m.2) (some_text w (not-true (is_empty w) a.0), (begins_is k above m.0 m.1 ∙ not-true (begins_text k) b.0, fine_of k above m.0 m.1 b.1))
 fine_of (comment w k) above r e h = let m = bind_some (resolve above k) _ r e in subst Fine (some_is _ r m.2) (fine_of k above m.0 m.1 h)
 fine_of (instruction target w k) above r e h =
     let c = cond_some (is_ncname target) _ r e in
@@ -77,7 +70,7 @@ fine_of (instruction target w k) above r e h =
     subst Fine (some_is _ r m.2) (fine_of k above m.0 m.1 h)
 fine_of (element tag inner until k) above r e h =
     let p = element_parts above tag inner until k r e in
-    let a = and_true (are_texts_joined inner) (are_texts_joined k) h in
+    let a = and_parts (are_texts_joined inner) (are_texts_joined k) h in
     subst Fine p.whole (are_faultless tag.attributes p.t.declared p.tagged.declared, (fine_of inner (p.t.declared ∷ above) p.i p.inside a.0, fine_of k above p.m p.behind_it a.1))
 
 pub misc_of : (k : Content) (above : Above) (r : Resolved) → resolve above k ≡ Some r → is_misc k ≡ true → IsMisc r
@@ -103,4 +96,4 @@ one_of (instruction target w k) above r e h =
 one_of (element tag inner until k) above r e h = let p = element_parts above tag inner until k r e in subst HasOne p.whole (misc_of k above p.m p.behind_it h)
 
 pub document_parts : (t : Content) → is_document t ≡ true → (has_one_element t ≡ true) × (are_texts_joined t ≡ true)
-document_parts t h = and_true (has_one_element t) (are_texts_joined t) h
+document_parts t h = and_parts (has_one_element t) (are_texts_joined t) h

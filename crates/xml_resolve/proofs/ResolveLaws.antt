@@ -9,6 +9,7 @@ use Rattle.std.specs.Ordering.{nat_cmp, match_ordering}
 use Rattle.std.specs.declared.cmp.Ordering.{Ordering}
 use Rattle.std.specs.declared.cmp.Ordering.TheVariants.{Less, Equal, Greater}
 use Rattle.std.proofs.lemmas.Map.Lookups.{exact_bytes, exact_pairs}
+use Rattle.std.proofs.Math.Bool.{and-true}
 use Rattle.xml_names.specs.Names.{qname_of, is_ncname}
 use Rattle.xml_names.specs.Scopes.{Entry, Enter, Declared, declared_fault, is_entered, left, last_declared, name_of, is_empty, undeclared_is_none, xml_name}
 use Rattle.xml_syntax.specs.Tree.{Tag, Attribute, Content, nothing, text, comment, instruction, element, events, Event, End}
@@ -298,11 +299,7 @@ resolves_is (element tag inner until k) above es =
     (λ t. resolves_is inner (t.declared ∷ above) (End until ∷ (events k ++ es))
     ∙ ap (λ (b : Bool). is_some (resolve (t.declared ∷ above) inner) && b) (end_step above t.declared until (events k ++ es) ∙ resolves_is k above es))
 
-and_true : (b : Bool) → b && true ≡ b
-and_true true = refl
-and_true false = refl
-
 -- the events of a tree
 pub check_is : (t : Content) → resolves [] (events t) ≡ is_some (resolve [] t)
 unfolding resolves
-check_is t = ap (resolves []) (sym (append-nil (events t))) ∙ resolves_is t [] [] ∙ and_true (is_some (resolve [] t))
+check_is t = ap (resolves []) (sym (append-nil (events t))) ∙ resolves_is t [] [] ∙ and-true (is_some (resolve [] t))

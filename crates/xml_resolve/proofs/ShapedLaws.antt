@@ -1,7 +1,7 @@
 -- The rows of a document are well shaped.
 use Rattle.std.proofs.Common.{◌≡◌, ◌≢◌, ℕ, suc, ◌+◌, ◌-◌, ◌<◌, ◌≤◌, inl, inr, Bool, true, false, ◌&&◌, eqb, List, [], length, drop, Option, Some, None, refl, sym, ap, ◌∙◌, arith}
 use Rattle.std.specs.Prelude.{codes, is_some}
-use Rattle.std.proofs.lemmas.Bool.{cases_lt, cases_eq, eq-eqb, eqb-true, false≢true}
+use Rattle.std.proofs.lemmas.Bool.{and_parts, cases_eq, cases_lt, eq-eqb, eqb-true, false≢true}
 use Rattle.std.proofs.lemmas.List.{get_or-drop, length-drop}
 use Rattle.xml_names.specs.Scopes.{xml_name}
 use Rattle.xml_doc.specs.Kinds.{is_element, is_field, is_namespace}
@@ -31,10 +31,6 @@ namespace_is kinds.Attribute e = absurd (false≢true e)
 namespace_is kinds.Text e = absurd (false≢true e)
 namespace_is kinds.Comment e = absurd (false≢true e)
 namespace_is kinds.Instruction e = absurd (false≢true e)
-
-both : (a b : Bool) → (a && b) ≡ true → (a ≡ true) × (b ≡ true)
-both true b e = (refl, e)
-both false b e = absurd (false≢true e)
 
 some_of : (o : Option (List ℕ)) → is_some o ≡ true → (v : List ℕ) × (o ≡ Some v)
 some_of None e = absurd (false≢true e)
@@ -82,7 +78,7 @@ module _ (rows : List RowOf) (t : IsTree rows) (f : HasFields rows) where
 
   named_row : (e : ℕ) (x v : List ℕ) → RowFor rows e x v → Named e x
   named_row e x v r =
-      let p = both (is_namespace (row_at rows r.at).kind) (eqb (row_at rows r.at).parent e) r.named in
+      let p = and_parts (is_namespace (row_at rows r.at).kind) (eqb (row_at rows r.at).parent e) r.named in
       (r.at, r.within, namespace_is (row_at rows r.at).kind p.0, eqb-true (row_at rows r.at).parent e p.1, r.prefix)
 
   module _ (m : ℕ) (count : m ≡ length rows) (s : ScopesIn rows first_bindings 1 m 0) where
@@ -116,7 +112,7 @@ module _ (rows : List RowOf) (t : IsTree rows) (f : HasFields rows) where
         → (k : ℕ) × (k < length rows) × ((row_at rows k).kind ≡ Namespace) × ((row_at rows k).parent ≡ e) × ((row_at rows k).local_name ≡ codes "xml") × ((row_at rows k).value ≡ xml_name)
     xml_bound e within is =
         let r = row_behind rows e (codes "xml") xml_name (s.xml e (not_root e is) (omega (arith, within, count)) is) in
-        let p = both (is_namespace (row_at rows r.at).kind) (eqb (row_at rows r.at).parent e) r.named in
+        let p = and_parts (is_namespace (row_at rows r.at).kind) (eqb (row_at rows r.at).parent e) r.named in
         (r.at, r.within, namespace_is (row_at rows r.at).kind p.0, eqb-true (row_at rows r.at).parent e p.1, r.prefix, r.uri)
 
 module _ (t : Resolved) (fine : Fine t) (one : HasOne t) where

@@ -1,24 +1,17 @@
 -- What characters spell is the tree of a document.
 use Rattle.std.proofs.Common.{◌≡◌, ℕ, Bool, true, false, ◌&&◌, not, List, [], ◌∷◌, refl}
-use Rattle.std.proofs.lemmas.Bool.{false≢true}
+use Rattle.std.proofs.lemmas.Bool.{and_from, and_parts, false≢true}
 use Rattle.xml_names.specs.Scopes.{is_empty}
 use Rattle.xml_syntax.specs.Characters.{Placed}
 use Rattle.xml_syntax.specs.Grammar.{SpellsContent, none, char_data, a_reference, a_section, a_comment, an_instruction, an_empty, an_element, SpellsMisc, no_misc, some_space, misc_comment, misc_instruction, SpellsElement, empty_root, root, SpellsDocument, document}
 use Rattle.xml_syntax.specs.Tree.{Content, nothing, text, comment, instruction, element, text_before, followed_by}
 use Rattle.xml_resolve.specs.Documents.{begins_text, are_texts_joined, is_misc, has_one_element, is_document}
 
-and_from : (a b : Bool) → a ≡ true → b ≡ true → (a && b) ≡ true
-and_from a b e f = rw (e, f) refl
-
-and_true : (a b : Bool) → (a && b) ≡ true → (a ≡ true) × (b ≡ true)
-and_true true b e = (refl, e)
-and_true false b e = absurd (false≢true e)
-
 -- characters before a text join it
 before_joined : (w : List ℕ) (k : Content) → are_texts_joined k ≡ true → are_texts_joined (text_before w k) ≡ true
 before_joined [] k e = e
 before_joined (c ∷ w) nothing e = refl
-before_joined (c ∷ w) (text v k) e = (and_true (not (is_empty v)) (not (begins_text k) && are_texts_joined k) e).1
+before_joined (c ∷ w) (text v k) e = (and_parts (not (is_empty v)) (not (begins_text k) && are_texts_joined k) e).1
 before_joined (c ∷ w) (comment v k) e = e
 before_joined (c ∷ w) (instruction target v k) e = e
 before_joined (c ∷ w) (element tag inner until k) e = e

@@ -12,7 +12,8 @@ use Rattle.xml_resolve.specs.SeenRows.{AddsRows, AddsFound, Builds, Lacks, Makes
 use Rattle.xml_resolve.specs.Table.{Stack, parent_of, bindings_of, pushed, bound_by, declares, bindings_behind, ordered_behind, tag_rows, built}
 use Rattle.xml_resolve.specs.declared.fault.RowFault.{RowFault}
 use Rattle.xml_resolve.specs.declared.fault.RowFault.TheVariants.{Namespaces, TooManyRows, Memory}
-use Rattle.xml_resolve.proofs.BuiltLaws.{bind_some, some_is, one_longer, not_fewer}
+use Rattle.xml_syntax.proofs.Runs.{bind_some, some_is}
+use Rattle.xml_resolve.proofs.BuiltLaws.{one_longer, not_fewer}
 use Rattle.xml_resolve.proofs.FieldLaws.{length_namespaces, length_attributes}
 
 map_some : {A B : Type 0} (f : A → B) (o : Option A) (y : B) → option_map f o ≡ Some y → (x : A) × (o ≡ Some x) × (f x ≡ y)

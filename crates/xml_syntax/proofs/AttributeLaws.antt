@@ -1,14 +1,14 @@
 -- Values and attributes: what is read is spelled so, and what is spelled so is read.
 use Rattle.std.proofs.Common.{◌≡◌, ℕ, zero, suc, ◌<◌, ◌≤◌, Bool, true, false, ◌||◌, ◌&&◌, inl, inr, cond, List, [], ◌∷◌, ◌++◌, length, Some, refl, sym, ap, subst, ◌∙◌, append_assoc, eqb, arith, length-append}
 use Rattle.std.specs.Prelude.{encode_utf8}
-use Rattle.std.proofs.lemmas.Bool.{eqb-true, eq-eqb}
+use Rattle.std.proofs.lemmas.Bool.{and_parts, eq-eqb, eqb-true}
 use Rattle.xml_names.specs.Characters.{is_char, is_name_start, is_name_char}
 use Rattle.xml_syntax.specs.Characters.{Placed, mark, begins, passes_next, behind_first, front, behind, Passes, Stops}
 use Rattle.xml_syntax.specs.Classes.{is_space, is_value_char, is_quote, value_code}
 use Rattle.xml_syntax.specs.Tree.{Attribute}
 use Rattle.xml_syntax.specs.Grammar.{SpellsName, SpellsReference, SpellsValue, closed, plain, referred, SpellsAttribute, attribute, SpellsAttributes, no_more, one_more}
 use Rattle.xml_syntax.specs.Reading.{◌>>=◌, mark_of, name_of, one_of, reference_of, value_part_of, value_of, attribute_of, attributes_of}
-use Rattle.xml_syntax.proofs.Runs.{bind_some, cond_cases, some_is, Taken, front_parts, front_passes, behind_again, stops_next, and_true, and_false, or_true}
+use Rattle.xml_syntax.proofs.Runs.{bind_some, cond_cases, some_is, Taken, front_parts, front_passes, behind_again, stops_next, and_false, or_true}
 use Rattle.xml_syntax.proofs.NameLaws.{name_sound, mark_sound, space_no_name, start_no_space, stops_at_space, name_and_space, one_sound, begins_mark, equals_no_name}
 use Rattle.xml_syntax.proofs.ReferenceLaws.{reference_sound, reference_complete, reference_begins}
 
@@ -177,7 +177,7 @@ attributes_sound (suc n) xs rest vs e =
     let left = behind is_space xs in
     elim (cond_cases (passes_next is_space xs && passes_next is_name_start left) (attribute_of left >>= λ first. attributes_of n first.1 >>= made first.0) (Some ([], left)) (vs, rest) e) [
       | inl here ↦
-          let tests = and_true (passes_next is_space xs) (passes_next is_name_start left) here.0 in
+          let tests = and_parts (passes_next is_space xs) (passes_next is_name_start left) here.0 in
           let a = bind_some (attribute_of left) (λ first. attributes_of n first.1 >>= made first.0) (vs, rest) here.1 in
           let b = bind_some (attributes_of n a.0.1) (made a.0.0) (vs, rest) a.2 in
           let is = some_is (a.0.0 ∷ b.0.0, b.0.1) (vs, rest) b.2 in

@@ -5,7 +5,7 @@ use Rattle.xml_syntax.specs.Tree.{Tag, Content, nothing, element, followed_by}
 use Rattle.xml_syntax.specs.Grammar.{SpellsStart, SpellsEnd, SpellsContent, SpellsElement, empty_root, root, SpellsMisc, SpellsDeclaration, SpellsDocument, document}
 use Rattle.xml_syntax.specs.Reading.{◌>>=◌, Item, Words, Comment, Instruction, Empty, Start, End, tag_of, Level, left_of, closed_by, behind_tag, element_of, misc_follows, misc_of, declaration_follows, declared_of, prolog_of, at_end, behind_prolog, document_of}
 use Rattle.xml_syntax.proofs.Runs.{bind_some, some_is, Taken}
-use Rattle.xml_syntax.proofs.ItemLaws.{SpellsMarkup, tag_taken, start_complete, empty_complete, start_begins, empty_begins, BeginsTag, end_begins, end_item}
+use Rattle.xml_syntax.proofs.ItemLaws.{regroup3, SpellsMarkup, tag_taken, start_complete, empty_complete, start_begins, empty_begins, BeginsTag, end_begins, end_item}
 use Rattle.xml_syntax.proofs.Whole.{SpellsLeft, no_level, a_level, left_sound, content_complete, items_and, items_bound, more_items, left_step, same_name, nonempty}
 use Rattle.xml_syntax.proofs.DeclarationLaws.{declared_sound, declared_complete}
 use Rattle.xml_syntax.proofs.MiscLaws.{misc_sound, misc_complete, tag_no_misc, no_question, misc_no_declaration}
@@ -54,9 +54,6 @@ element_sound xs rest k e =
 end_alone : (c rest : List Placed) (name : List ℕ) (until : ℕ) → SpellsEnd c name until → left_of 1 (name ∷ []) (c ++ rest) ≡ Some ((nothing, until) ∷ [], rest)
 unfolding left_of
 end_alone c rest name until close = left_step 0 name [] [] (c ++ rest) rest rest (End name until) [] (end_item c rest name until close) (same_name name [] until) refl
-
-regroup3 : (a b c rest : List Placed) → (a ++ (b ++ c)) ++ rest ≡ a ++ (b ++ (c ++ rest))
-regroup3 a b c rest = simp append_assoc
 
 -- content and an end tag
 pub closed_content : (s e rest : List Placed) (k : Content) (name : List ℕ) (from : ℕ) → SpellsContent s k → SpellsEnd e name from

@@ -23,7 +23,7 @@ SpellsTag (Empty tag until) s = SpellsEmpty s tag until
 SpellsTag (Start tag) s = SpellsStart s tag
 SpellsTag (End name from) s = SpellsEnd s name from
 
-regroup3 : (a b c rest : List Placed) → (a ++ (b ++ c)) ++ rest ≡ a ++ (b ++ (c ++ rest))
+pub regroup3 : (a b c rest : List Placed) → (a ++ (b ++ c)) ++ rest ≡ a ++ (b ++ (c ++ rest))
 regroup3 a b c rest = simp append_assoc
 
 -- ---- '</' Name [S] '>'

@@ -103,7 +103,7 @@ pub clear_lacks : (w : List ℕ) (s t : List Placed) → Clear w s t → Lacks w
 clear_lacks w [] t h = tt
 clear_lacks w (x ∷ s) t h = (begins_less w (x ∷ s) t h.0, clear_lacks w s t h.1)
 
-cond_none : (b : Bool) → cond b false false ≡ false
+pub cond_none : (b : Bool) → cond b false false ≡ false
 cond_none true = refl
 cond_none false = refl
 

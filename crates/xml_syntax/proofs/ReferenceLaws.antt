@@ -1,13 +1,13 @@
 -- References: what is read is spelled so, and what is spelled so is read.
 use Rattle.std.proofs.Common.{◌≡◌, ℕ, ◌<◌, true, false, ◌&&◌, inl, inr, cond, List, [], ◌∷◌, ◌++◌, length, Option, Some, None, refl, sym, ap, subst, ◌∙◌, append_assoc, arith}
-use Rattle.std.proofs.lemmas.Bool.{false≢true}
+use Rattle.std.proofs.lemmas.Bool.{and_parts, false≢true}
 use Rattle.std.proofs.lemmas.Bool.Decides.{eqb_tells}
 use Rattle.xml_names.specs.Characters.{is_char, is_name_start}
 use Rattle.xml_syntax.specs.Characters.{Placed, mark, begins, passes_next, behind_first, front, behind, SomePass}
 use Rattle.xml_syntax.specs.Classes.{is_digit, is_hex_digit}
 use Rattle.xml_syntax.specs.Grammar.{decimal_from, hex_from, entity, SpellsName, SpellsReference, decimal, hexadecimal, named}
 use Rattle.xml_syntax.specs.Reading.{◌>>=◌, mark_of, name_of, decimal_of, hex_of, char_reference_of, entity_reference_of, reference_of}
-use Rattle.xml_syntax.proofs.Runs.{bind_some, cond_some, cond_cases, some_is, Taken, front_parts, front_again, behind_again, front_some, some_all, some_next, and_true}
+use Rattle.xml_syntax.proofs.Runs.{bind_some, cond_some, cond_cases, some_is, Taken, front_parts, front_again, behind_again, front_some, some_all, some_next}
 use Rattle.xml_syntax.proofs.NameLaws.{name_sound, name_complete, mark_sound, begins_mark, start_no_mark, semicolon_no_name}
 
 -- ---- the digits of a reference
@@ -21,7 +21,7 @@ module _ (amp sharp : ℕ) (xs rest : List Placed) (c : ℕ) where
       let last = λ (close : ℕ × List Placed). cond {A = Option (ℕ × List Placed)} (passes_next is_digit xs && is_char number) (Some (number, close.1)) None in
       let m = bind_some (mark_of 59 (behind is_digit xs)) last (c, rest) e in
       let g = cond_some (passes_next is_digit xs && is_char number) (Some (number, m.0.1)) (c, rest) m.2 in
-      let tests = and_true (passes_next is_digit xs) (is_char number) g.0 in
+      let tests = and_parts (passes_next is_digit xs) (is_char number) g.0 in
       let is = some_is (number, m.0.1) (c, rest) g.1 in
       let c-is : number ≡ c = ap (λ (p : ℕ × List Placed). p.0) is in
       let rest-is : m.0.1 ≡ rest = ap (λ (p : ℕ × List Placed). p.1) is in
@@ -42,7 +42,7 @@ module _ (amp sharp : ℕ) (xs rest : List Placed) (c : ℕ) where
       let last = λ (close : ℕ × List Placed). cond {A = Option (ℕ × List Placed)} (passes_next is_hex_digit xs && is_char number) (Some (number, close.1)) None in
       let m = bind_some (mark_of 59 (behind is_hex_digit xs)) last (c, rest) e in
       let g = cond_some (passes_next is_hex_digit xs && is_char number) (Some (number, m.0.1)) (c, rest) m.2 in
-      let tests = and_true (passes_next is_hex_digit xs) (is_char number) g.0 in
+      let tests = and_parts (passes_next is_hex_digit xs) (is_char number) g.0 in
       let is = some_is (number, m.0.1) (c, rest) g.1 in
       let c-is : number ≡ c = ap (λ (p : ℕ × List Placed). p.0) is in
       let rest-is : m.0.1 ≡ rest = ap (λ (p : ℕ × List Placed). p.1) is in

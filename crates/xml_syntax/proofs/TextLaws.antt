@@ -10,7 +10,7 @@ use Rattle.xml_syntax.specs.Grammar.{SpellsName, SpellsCharData, SpellsSection, 
 use Rattle.xml_syntax.specs.Reading.{◌>>=◌, literal_of, name_of, until_of, plain_of, char_data_of, section_of, comment_of, instruction_value_of, instruction_of}
 use Rattle.xml_syntax.proofs.Runs.{bind_some, cond_some, cond_cases, some_is, Taken, front_parts, behind_stops, behind_again, front_some, some_all, some_next, stops_front, stops_append}
 use Rattle.xml_syntax.proofs.NameLaws.{name_sound, name_complete, question_no_name, space_no_name}
-use Rattle.xml_syntax.proofs.LiteralLaws.{literal_sound, literal_complete, literal_begins, Clear, until_sound, until_complete, clear_lacks, section_clear, comment_clear, clear_ends, instruction_clear}
+use Rattle.xml_syntax.proofs.LiteralLaws.{cond_none, literal_sound, literal_complete, literal_begins, Clear, until_sound, until_complete, clear_lacks, section_clear, comment_clear, clear_ends, instruction_clear}
 
 -- ---- CharData
 
@@ -96,10 +96,6 @@ plain_marks c e = (other 93 plain_bracket, other 62 plain_greater)
       | inl here ↦ absurd (false≢true (sym e ∙ ap is_plain here.1 ∙ h))
       | inr different ↦ different.0
     ]
-
-cond_none : (b : Bool) → cond b false false ≡ false
-cond_none true = refl
-cond_none false = refl
 
 -- ']]>' before what isn't character data
 plain_clear : (s rest : List Placed) → Lacks (codes "]]>") s → Stops is_plain rest → Clear (codes "]]>") s rest

@@ -13,6 +13,7 @@ use Rattle.std.proofs.lemmas.Str.Parse.{IsDigitsTest, IsNumeralModel, numerals_b
 use Rattle.std.proofs.lemmas.Fmt.{IsAscii-signed}
 use Rattle.std.proofs.lemmas.Bool.Decides.{nat_tests}
 use Rattle.std.specs.Int.Signed.{mag}
+use Rattle.std.proofs.lemmas.Bool.{and_parts}
 use Rattle.xpath_value.specs.Characters.{is_digit, is_empty}
 use Rattle.xpath_value.specs.Numbers.{IsWithin, greatest, number_behind_sign, signed, text_of, whole_value}
 use Rattle.xpath_value.specs.declared.number.NumberFault.{NumberFault}
@@ -23,10 +24,6 @@ use Rattle.xpath_value.specs.declared.number.Number.TheVariants.{Whole, Nan}
 abbrev Digits : List ℕ → Type 0
 Digits ds = list_all is_digit ds ≡ true
 
-both : (a b : Bool) → (a && b) ≡ true → (a ≡ true) × (b ≡ true)
-both true b e = (refl, e)
-both false b e = absurd (cc)
-
 digit_range : (c : ℕ) → is_digit c ≡ true → IsInRange 48 57 c
 digit_range c e = grind (arith, nat_tests)
 
@@ -36,7 +33,7 @@ range_digit c h = grind (arith, nat_tests)
 tells : IsDigitsTest Digits
 tells = record {
   empty = refl;
-  parts = λ c cs e. let p : (is_digit c ≡ true) × (list_all is_digit cs ≡ true) = both (is_digit c) (list_all is_digit cs) e in (digit_range c p.0, p.1);
+  parts = λ c cs e. let p : (is_digit c ≡ true) × (list_all is_digit cs ≡ true) = and_parts (is_digit c) (list_all is_digit cs) e in (digit_range c p.0, p.1);
   more = λ c cs r e. rw (range_digit c r) e;
 }
 
@@ -46,7 +43,7 @@ own = numerals_by_value Digits tells
 ascii_from_digits : (cs : List ℕ) → Digits cs → IsAscii cs
 ascii_from_digits [] e = IsAscii-nil
 ascii_from_digits (c ∷ cs) e =
-    let p : (is_digit c ≡ true) × (list_all is_digit cs ≡ true) = both (is_digit c) (list_all is_digit cs) e in
+    let p : (is_digit c ≡ true) × (list_all is_digit cs ≡ true) = and_parts (is_digit c) (list_all is_digit cs) e in
     let r : IsInRange 48 57 c = digit_range c p.0 in
     IsAscii-cons c cs (omega (arith, r.1)) (ascii_from_digits cs p.1)
 

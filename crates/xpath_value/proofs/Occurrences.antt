@@ -3,15 +3,11 @@ use Rattle.std.proofs.Common.{◌≡◌, refl, ap, sym, subst, ◌∙◌, ◌++�
 use Rattle.std.specs.Prelude.{◌&&◌, ◌==◌, option_map, encode_utf8_all}
 use Rattle.std.specs.Str.{chars, IsUtf8}
 use Rattle.std.specs.Str.Pattern.{FindsText, LacksTextAt}
-use Rattle.std.proofs.lemmas.Bool.{eqb-true, eq-eqb, cases_lt}
+use Rattle.std.proofs.lemmas.Bool.{and_parts, cases_lt, eq-eqb, eqb-true}
 use Rattle.std.proofs.lemmas.Str.{encodes-append, encodes-chars, chars-append, length-le-encodes}
 use Rattle.std.proofs.lemmas.List.{length-append, take-append-drop, take-append-le, length-drop}
 use Rattle.std.proofs.Math.Seq.{take-append_seam, drop-append_seam, drop-append-add}
 use Rattle.xpath_value.specs.Texts.{begins_with, first_occurrence, before_place, after_place, substring_before_of, substring_after_of}
-
-both : (a b : Bool) → (a && b) ≡ true → (a ≡ true) × (b ≡ true)
-both true b e = (refl, e)
-both false b e = absurd (cc)
 
 -- a text begins with a mark just where the mark stands at its front
 begins_at_front : (mark ys : List ℕ) → begins_with mark (mark ++ ys) ≡ true
@@ -24,7 +20,7 @@ unfolding begins_with
 front_begins [] text e = refl
 front_begins (m ∷ ms) [] e = absurd (cc)
 front_begins (m ∷ ms) (c ∷ cs) e =
-    let p : ((m == c) ≡ true) × (begins_with ms cs ≡ true) = both (m == c) (begins_with ms cs) e in
+    let p : ((m == c) ≡ true) × (begins_with ms cs ≡ true) = and_parts (m == c) (begins_with ms cs) e in
     ap (λ (t : List ℕ). c ∷ t) (front_begins ms cs p.1) ∙ ap (λ (d : ℕ). d ∷ ms ++ drop (length ms) cs) (sym (eqb-true m c p.0))
 
 -- the mark stands nowhere in the text

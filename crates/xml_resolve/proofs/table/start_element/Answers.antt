@@ -4,7 +4,8 @@ use Rattle.std.proofs.lemmas.Result.{err_from_is_err_and}
 use Rattle.xml_syntax.specs.Seen.{seen_tag, seen_attributes}
 use Rattle.xml_resolve.specs.SeenRows.{seen_open}
 use Rattle.xml_resolve.specs.Table.{bindings_behind, bindings_of, declares}
-use Rattle.xml_resolve.proofs.BuiltLaws.{some_is, undeclared}
+use Rattle.xml_syntax.proofs.Runs.{some_is}
+use Rattle.xml_resolve.proofs.BuiltLaws.{undeclared}
 use Rattle.xml_resolve.proofs.TableSteps.{tag_refused, tag_taken}
 use Rattle.xml_resolve.proofs.table.start_element.Goals as goal
 
