@@ -1,6 +1,6 @@
 -- The value of digits, and the text of a number.
 use Rattle.std.proofs.Common.{◌≡◌, refl, ap, sym, subst, ◌∙◌, ℕ, zero, suc, ◌<◌, ◌≤◌, ◌^◌, List, [], ◌∷◌, length, Bool, true, false, arith, Result, Ok, Err}
-use Rattle.std.specs.Prelude.{◌&&◌, IfOk, codes, if◌then◌else◌, nat_abs, nat_le, negsuc, pos, ℤ}
+use Rattle.std.specs.Prelude.{IfOk, codes, if◌then◌else◌, nat_abs, nat_le, negsuc, pos, ℤ}
 use Rattle.std.specs.Str.{chars, IsUtf8, IsAscii}
 use Rattle.std.specs.List.{list_all}
 use Rattle.std.specs.Result.{OkIff}
