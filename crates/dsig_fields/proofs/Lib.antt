@@ -1,1 +1,3 @@
+pub mod Refusals
 pub mod SignatureLaws
+pub mod SimpleLaws

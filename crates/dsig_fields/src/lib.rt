@@ -11,6 +11,8 @@ mod names;
 mod read;
 mod refusal;
 mod signatures;
+mod simple;
+mod space;
 
 pub use fields::{Fields, Filter, FilterList, Reference, ReferenceList, Step, StepList};
 pub use key::{KeyChoice, Question, choose_key};
