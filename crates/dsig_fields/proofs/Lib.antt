@@ -1,3 +1,4 @@
+pub mod LengthLaws
 pub mod Refusals
 pub mod SignatureLaws
 pub mod SimpleLaws

@@ -7,12 +7,15 @@
 mod element;
 mod fields;
 mod key;
+mod lengths;
 mod names;
 mod read;
 mod refusal;
 mod signatures;
 mod simple;
 mod space;
+#[cfg(test)]
+mod tests;
 
 pub use fields::{Fields, Filter, FilterList, Reference, ReferenceList, Step, StepList};
 pub use key::{KeyChoice, Question, choose_key};
