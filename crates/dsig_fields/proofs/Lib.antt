@@ -1,4 +1,5 @@
 pub mod LengthLaws
+pub mod PrefixLaws
 pub mod Refusals
 pub mod SignatureLaws
 pub mod SimpleLaws

@@ -9,6 +9,7 @@ mod fields;
 mod key;
 mod lengths;
 mod names;
+mod prefixes;
 mod read;
 mod refusal;
 mod signatures;
