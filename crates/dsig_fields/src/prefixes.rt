@@ -28,15 +28,15 @@ pub(crate) fn names_in(alloc: Global, text: &str) -> Result<PrefixList, NoMemory
 fn cut_at_space(text: &str) -> Option<(&str, &str)>
     ensures { MatchOption result (slice_split is_space text.now ≡ text.now ∷ []) (λ cut. (slice_split is_space text.now ≡ cut.0.now ∷ slice_split is_space cut.1.now) × (length cut.1.now < length text.now)) }
 {
-    let at = first_space(text.as_bytes())?;
+    let at = first_space(text)?;
     Some((&text[..at], &text[at + 1..]))
 }
 
 /// The place of the first white space; `None` where there is none.
-fn first_space(text: &[u8]) -> Option<usize>
+fn first_space(text: &str) -> Option<usize>
     ensures { MatchOption result (length text.now ≤ position_or_len is_space text.now) (λ at. (at ≡ position_or_len is_space text.now) × (at < length text.now)) }
 {
-    text.iter().position(|octet| is_space(*octet))
+    text.as_bytes().iter().position(|octet| is_space(*octet))
 }
 
 /// Adds a name to the list, if it has a character.
