@@ -1,4 +1,9 @@
+pub mod FitLaws
+pub mod FoundLaws
 pub mod LengthLaws
+pub mod ManyLaws
+pub mod NameLaws
+pub mod NextLaws
 pub mod PrefixLaws
 pub mod Refusals
 pub mod SignatureLaws

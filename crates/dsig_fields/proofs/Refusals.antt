@@ -1,6 +1,6 @@
 -- A refusal on its way through the steps behind it.
 use Rattle.std.proofs.Common.{◌≡◌, subst}
-use Rattle.std.specs.Prelude.{Result}
+use Rattle.std.specs.Prelude.{Result, Err}
 use Rattle.dsig_fields.specs.Reading.{◌>>=◌, Refuses}
 use Rattle.dsig_fields.specs.declared.refusal.FieldRefusal.{FieldRefusal}
 use Rattle.dsig_fields.specs.declared.refusal.FieldRefusal.TheVariants.{Missing, Extra, NoAlgorithm, UnknownMethod, Xslt, PublicKey, BadLength, BadBase64, BadFilter, NoUri, TooManyReferences, TooManyTransforms, TooManyFilters, Memory}
@@ -25,3 +25,20 @@ bind_refused Memory outcome f h = tt
 -- the refusal of an outcome that is another
 pub refused_as : {A : Type 0} (refusal : FieldRefusal) {one other : Result A FieldRefusal} → one ≡ other → Refuses refusal one → Refuses refusal other
 refused_as {A} refusal e h = let P : Result A FieldRefusal → Type 0 = λ o. Refuses refusal o in subst P e h
+
+-- an outcome that is this refusal
+pub refuses : {A : Type 0} (refusal : FieldRefusal) (outcome : Result A FieldRefusal) → outcome ≡ Err refusal → Refuses refusal outcome
+refuses (Missing name) outcome h = h
+refuses (Extra x) outcome h = h
+refuses (NoAlgorithm x) outcome h = h
+refuses (UnknownMethod x) outcome h = h
+refuses (Xslt x) outcome h = h
+refuses (PublicKey x) outcome h = h
+refuses (BadLength x) outcome h = h
+refuses (BadBase64 x) outcome h = h
+refuses (BadFilter x) outcome h = h
+refuses (NoUri x) outcome h = h
+refuses TooManyReferences outcome h = h
+refuses (TooManyTransforms x) outcome h = h
+refuses (TooManyFilters x) outcome h = h
+refuses Memory outcome h = tt

@@ -4,6 +4,7 @@ pub mod Simple
 pub mod Lengths
 pub mod Prefixes
 pub mod Fields
+pub mod Cursor
 pub mod Signatures
 pub mod Keys
 pub mod Holds

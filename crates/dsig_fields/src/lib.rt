@@ -4,19 +4,26 @@
 //! `specs/Fields.antt` read like the grammar, a line for each child; the first refusal that is met is the answer.
 #![tactic(auto)]
 
+mod attributes;
+mod children;
 mod element;
 mod fields;
 mod key;
+mod key_info;
 mod lengths;
+mod methods;
 mod names;
 mod prefixes;
 mod read;
+mod references;
 mod refusal;
+mod repeated;
 mod signatures;
 mod simple;
 mod space;
 #[cfg(test)]
 mod tests;
+mod transforms;
 
 pub use fields::{Fields, Filter, FilterList, Reference, ReferenceList, Step, StepList};
 pub use key::{KeyChoice, Question, choose_key};
