@@ -122,9 +122,9 @@ impl<'d> Children<'d> {
     /// An element of this name, which may stand next where it is permitted.
     pub(crate) fn optional_if(
         &mut self,
-        permitted: bool,
         doc: &Doc<'_>,
         name: ElementName,
+        permitted: bool,
     ) -> Result<Option<u32>, FieldRefusal>
         ensures within { IfOk result (λ o. IfSome o (λ y. y < length doc.now)) }
         ensures reads { spec.Reads (λ o. o) result self.new (spec.optional_if permitted doc.now name self.old) }

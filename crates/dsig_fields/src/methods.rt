@@ -45,7 +45,7 @@ pub(crate) fn inner_prefixes(
     ensures { Gives (λ p. p) result (spec.inner_prefixes doc.now method x) }
 {
     let mut children = Children::of(doc, x);
-    let list = children.optional_if(method.is_exclusive(), doc, ElementName::InclusiveNamespaces)?;
+    let list = children.optional_if(doc, ElementName::InclusiveNamespaces, method.is_exclusive())?;
     children.at_end(doc)?;
     Ok(prefix_list(alloc, doc, list)?)
 }

@@ -69,21 +69,17 @@ impl Repeated for Reference {
     ghost use Rattle.dsig_fields.specs.declared.names.ElementName.TheVariants.{Reference};
     ghost use Rattle.dsig_fields.specs.declared.refusal.FieldRefusal.TheVariants.{TooManyReferences};
 
-    ghost name = { Reference };
+    ghost NAME = { Reference };
 
-    ghost limit = { 256 };
+    ghost LIMIT = { 256 };
 
     ghost excess = { λ _. TooManyReferences };
 
     ghost outcome = { reference };
 
-    fn name() -> ElementName {
-        ElementName::Reference
-    }
+    const NAME: ElementName = ElementName::Reference;
 
-    fn limit() -> usize {
-        256
-    }
+    const LIMIT: usize = 256;
 
     fn too_many(_x: u32) -> FieldRefusal {
         FieldRefusal::TooManyReferences

@@ -19,10 +19,10 @@ pub(crate) trait Repeated: Drop {
     ghost use Rattle.dsig_fields.specs.declared.refusal.FieldRefusal.{FieldRefusal};
 
     /// The element's name.
-    ghost name: { ElementName };
+    ghost NAME: { ElementName };
 
     /// How many may stand side by side.
-    ghost limit: { ℕ };
+    ghost LIMIT: { ℕ };
 
     /// The refusal of one more.
     ghost excess: { ℕ → FieldRefusal };
@@ -31,14 +31,12 @@ pub(crate) trait Repeated: Drop {
     ghost outcome: { List RowOf → ℕ → Result Self FieldRefusal };
 
     /// The element's name.
-    fn name() -> ElementName
-        ensures { result ≡ name };
+    const NAME: ElementName;
 
     /// How many may stand side by side.
-    fn limit() -> usize
-        ensures { result ≡ limit };
+    const LIMIT: usize;
 
-    /// The refusal of one more.
+    /// The refusal of one more, of row `x`.
     fn too_many(x: u32) -> FieldRefusal
         ensures { result ≡ excess x };
 
@@ -55,9 +53,9 @@ pub(crate) fn one_or_more<T: Repeated>(
     doc: &Doc<'_>,
     children: &mut Children<'_>,
 ) -> Result<Members<T>, FieldRefusal>
-    ensures { spec.Reads (λ l. l) result children.new (spec.one_or_more T.excess doc.now T.name (T.outcome doc.now) T.limit children.old) }
+    ensures { spec.Reads (λ l. l) result children.new (spec.one_or_more T.excess doc.now T.NAME (T.outcome doc.now) T.LIMIT children.old) }
 {
-    let first = children.required(doc, T::name())?;
+    let first = children.required(doc, T::NAME)?;
     let mut members = Members::new(alloc);
     members.push(T::read(alloc, doc, first)?)?;
     read_more(alloc, doc, children, &mut members)?;
@@ -71,10 +69,10 @@ fn read_more<T: Repeated>(
     children: &mut Children<'_>,
     members: &mut Members<T>,
 ) -> Result<(), FieldRefusal>
-    ensures { Leaves result (members.new, children.new) (with_front members.old (spec.many T.excess doc.now T.name (T.outcome doc.now) (T.limit - length members.old) children.old)) }
+    ensures { Leaves result (members.new, children.new) (with_front members.old (spec.many T.excess doc.now T.NAME (T.outcome doc.now) (T.LIMIT - length members.old) children.old)) }
 {
-    while let Some(y) = children.optional(doc, T::name())? {
-        if members.len() >= T::limit() {
+    while let Some(y) = children.optional(doc, T::NAME)? {
+        if members.len() >= T::LIMIT {
             return Err(T::too_many(y));
         }
         members.push(T::read(alloc, doc, y)?)?;

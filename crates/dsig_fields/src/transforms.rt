@@ -85,21 +85,17 @@ impl Repeated for Filter {
     ghost use Rattle.dsig_fields.specs.declared.names.ElementName.TheVariants.{FilterXPath};
     ghost use Rattle.dsig_fields.specs.declared.refusal.FieldRefusal.TheVariants.{TooManyFilters};
 
-    ghost name = { FilterXPath };
+    ghost NAME = { FilterXPath };
 
-    ghost limit = { 16 };
+    ghost LIMIT = { 16 };
 
     ghost excess = { TooManyFilters };
 
     ghost outcome = { filter_at };
 
-    fn name() -> ElementName {
-        ElementName::FilterXPath
-    }
+    const NAME: ElementName = ElementName::FilterXPath;
 
-    fn limit() -> usize {
-        16
-    }
+    const LIMIT: usize = 16;
 
     fn too_many(x: u32) -> FieldRefusal {
         FieldRefusal::TooManyFilters(x)
@@ -157,21 +153,17 @@ impl Repeated for Step {
     ghost use Rattle.dsig_fields.specs.declared.names.ElementName.TheVariants.{Transform};
     ghost use Rattle.dsig_fields.specs.declared.refusal.FieldRefusal.TheVariants.{TooManyTransforms};
 
-    ghost name = { Transform };
+    ghost NAME = { Transform };
 
-    ghost limit = { 16 };
+    ghost LIMIT = { 16 };
 
     ghost excess = { TooManyTransforms };
 
     ghost outcome = { transform };
 
-    fn name() -> ElementName {
-        ElementName::Transform
-    }
+    const NAME: ElementName = ElementName::Transform;
 
-    fn limit() -> usize {
-        16
-    }
+    const LIMIT: usize = 16;
 
     fn too_many(x: u32) -> FieldRefusal {
         FieldRefusal::TooManyTransforms(x)
