@@ -6,6 +6,7 @@ use crate::fields::Fields;
 use digests_hmac::{Key, KeyTable};
 
 /// What is asked of a validation.
+#[derive(Drop)]
 pub struct Question<'q> {
     /// Which Signature of the document, counted from 1 in document order.
     pub index: u32,
