@@ -1,5 +1,5 @@
 -- Steps that ask for files, one after another.
-use Rattle.std.proofs.Common.{◌≡◌, ◌≢◌, ◌<◌, ◌≤◌, ◌++◌, ◌∙◌, ap, sym, refl, rules, arith, ℕ, suc, List, [], ◌∷◌, length, take, append_assoc, Option, Some, None, Result, Ok, Err, IsSomeAnd}
+use Rattle.std.proofs.Common.{◌≡◌, ◌≢◌, ◌<◌, ◌++◌, ◌∙◌, ap, sym, refl, arith, ℕ, suc, List, [], ◌∷◌, length, append_assoc, Option, Some, None, Result, Ok, Err, IsSomeAnd}
 use Rattle.std.proofs.lemmas.List.{take_all}
 use Rattle.std.proofs.lemmas.Bool.Decides.{nat_tests}
 use Rattle.xmldsig.specs.Outcome.{AsksAll, StopCounts, file_outcome, asked_behind}

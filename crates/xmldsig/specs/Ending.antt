@@ -4,7 +4,7 @@ use Rattle.sig_base.specs.Counts.{Rose}
 use Rattle.sig_outside.specs.Told.{Held}
 use Rattle.core_validate.specs.declared.report.Report.{Report}
 use Rattle.xmldsig.specs.Outcome.{names_asked}
-use Rattle.xmldsig.specs.Texts.{report_text}
+use Rattle.xmldsig.specs.Texts.{refusal_line, report_text}
 use Rattle.xmldsig.specs.declared.job.Job.{Job}
 use Rattle.xmldsig.specs.declared.ending.Refusal.{Refusal}
 use Rattle.xmldsig.specs.declared.ending.Ending.{Ending}
@@ -15,20 +15,20 @@ abbrev pub names_for : Option Job → Held → List (List ℕ)
 names_for None files = []
 names_for (Some job) files = names_asked job files
 
--- how delivering a report ends: with its text, or with want of memory
-abbrev pub Delivered : Report → Ending → Type 0
-Delivered report ending.Usage = ⊥
-Delivered report ending.ReadFault = ⊥
-Delivered report ending.Memory = Unit {0}
-Delivered report (ending.Refused refusal) = ⊥
-Delivered report (ending.Reported told text) = (told ≡ report) × (text ≡ report_text report)
+-- how delivering an answer ends: with its text, or with want of memory
+abbrev pub Delivered : Result Report Refusal → Ending → Type 0
+Delivered answer ending.Usage = ⊥
+Delivered answer ending.ReadFault = ⊥
+Delivered answer ending.Memory = Unit {0}
+Delivered answer (ending.Refused refusal line) = (answer ≡ Err refusal) × (line ≡ refusal_line refusal)
+Delivered answer (ending.Reported report text) = (answer ≡ Ok report) × (text ≡ report_text report)
 
 -- how a job with this outcome ends
 abbrev pub Settles : Result Report Refusal → Ending → Type 0
 Settles outcome ending.Usage = ⊥
 Settles outcome ending.ReadFault = Unit {0}
 Settles outcome ending.Memory = Unit {0}
-Settles outcome (ending.Refused refusal) = outcome ≡ Err refusal
+Settles outcome (ending.Refused refusal line) = (outcome ≡ Err refusal) × (line ≡ refusal_line refusal)
 Settles outcome (ending.Reported report text) = (outcome ≡ Ok report) × (text ≡ report_text report)
 
 -- the names that were asked for

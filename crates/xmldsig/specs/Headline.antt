@@ -3,11 +3,10 @@ use Rattle.std.specs.Prelude.{◌≡◌, ◌⊎◌, ◌≤◌, ◌++◌, ℕ, Li
 use Rattle.sig_base.specs.Counts.{Rose}
 use Rattle.sig_outside.specs.Told.{Grew, Held}
 use Rattle.core_validate.specs.declared.report.Report.{Report}
-use Rattle.xmldsig.specs.Printed.{report_status, err_of}
+use Rattle.xmldsig.specs.Printed.{report_status}
 use Rattle.xmldsig.specs.Outcome.{run_outcome}
-use Rattle.xmldsig.specs.Texts.{out_text, err_text, usage_line, read_fault_line, write_fault_line, memory_line}
+use Rattle.xmldsig.specs.Texts.{out_text, err_text, refusal_line, usage_line, read_fault_line, write_fault_line, memory_line}
 use Rattle.xmldsig.specs.declared.job.Job.{Job}
-use Rattle.xmldsig.specs.declared.ending.Ending.{Ending}
 use Rattle.xmldsig.specs.declared.ending.Refusal.{Refusal}
 use Rattle.xmldsig.specs.declared.ending.Status.{Status}
 use Rattle.xmldsig.specs.declared.ending.Status.TheVariants as status
@@ -73,10 +72,15 @@ OutBy text status.Refused o o' = Grew o o' text
 OutBy text status.WriteFault o o' = (n : ℕ) × Grew o o' (take n text)
 OutBy text other o o' = Grew o o' []
 
+-- the lines that err may have
+abbrev pub IsErrLine : List ℕ → Type 0
+IsErrLine line =
+    (line ≡ usage_line) ⊎ ((line ≡ read_fault_line) ⊎ ((line ≡ write_fault_line) ⊎ ((line ≡ memory_line) ⊎ ((cause : Refusal) × (line ≡ refusal_line cause)))))
+
 -- err failed too, behind a prefix of one of its lines
 pub record LineCut (e e' : Option (List ℕ)) (q q' : ℕ) : Type 0 where
   pub line : List ℕ
-  pub is_line : (line ≡ write_fault_line) ⊎ ((some : Ending) × (line ≡ err_of some))
+  pub is_line : IsErrLine line
   pub kept : ℕ
   pub told : Grew e e' (take kept line)
   pub rose : Rose q q'

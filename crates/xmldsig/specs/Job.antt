@@ -1,5 +1,5 @@
 -- The job that a list of words names. This project's own command line.
-use Rattle.std.specs.Prelude.{◌≡◌, ◌&&◌, ℕ, List, [], ◌∷◌, Bool, true, false, not, nat_eq, if◌then◌else◌, bytes_eq, codes, chars, Option, Some, None, Result, Ok, Err}
+use Rattle.std.specs.Prelude.{◌≡◌, ◌&&◌, ℕ, List, [], ◌∷◌, Bool, false, not, nat_eq, if◌then◌else◌, bytes_eq, codes, chars, Option, Some, None, Result, Ok, Err}
 use Rattle.xmldsig.specs.declared.job.Job.{Job}
 use Rattle.xmldsig.specs.declared.job.WordsFault.{WordsFault}
 use Rattle.xmldsig.specs.declared.job.WordsFault.TheVariants.{Usage, Memory}

@@ -3,8 +3,8 @@ use Rattle.std.specs.Prelude.{◌≡◌, ◌⊎◌, ◌≤◌, ℕ, List, [], ta
 use Rattle.sig_base.specs.Counts.{Rose}
 use Rattle.sig_outside.specs.Told.{Grew}
 use Rattle.core_validate.specs.declared.report.Report.{Report}
-use Rattle.core_validate.specs.declared.report.Report.TheVariants.{SignatureDiffers, Valid, DigestsDiffer}
-use Rattle.xmldsig.specs.Texts.{refusal_line, usage_line, read_fault_line, write_fault_line, memory_line}
+use Rattle.core_validate.specs.declared.report.Report.TheVariants.{SignatureDiffers, ShortTruncation, Valid, DigestsDiffer}
+use Rattle.xmldsig.specs.Texts.{usage_line, read_fault_line, write_fault_line, memory_line}
 use Rattle.xmldsig.specs.declared.ending.Ending.{Ending}
 use Rattle.xmldsig.specs.declared.ending.Ending.TheVariants as ending
 use Rattle.xmldsig.specs.declared.ending.Status.{Status}
@@ -12,6 +12,7 @@ use Rattle.xmldsig.specs.declared.ending.Status.TheVariants as status
 
 abbrev pub report_status : Report → Status
 report_status SignatureDiffers = status.Invalid
+report_status (ShortTruncation bits) = status.Invalid
 report_status (DigestsDiffer numbers) = status.Invalid
 report_status (Valid views) = status.Valid
 
@@ -20,7 +21,7 @@ abbrev pub status_of : Ending → Status
 status_of ending.Usage = status.Usage
 status_of ending.ReadFault = status.ReadFault
 status_of ending.Memory = status.Memory
-status_of (ending.Refused refusal) = status.Refused
+status_of (ending.Refused refusal line) = status.Refused
 status_of (ending.Reported report text) = report_status report
 
 -- the text on out
@@ -33,7 +34,7 @@ abbrev pub err_of : Ending → List ℕ
 err_of ending.Usage = usage_line
 err_of ending.ReadFault = read_fault_line
 err_of ending.Memory = memory_line
-err_of (ending.Refused refusal) = refusal_line refusal
+err_of (ending.Refused refusal line) = line
 err_of (ending.Reported report text) = []
 
 -- all was written

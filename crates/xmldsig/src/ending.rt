@@ -2,7 +2,8 @@
 ghost use Rattle.std.specs.Prelude.{◌≡◌};
 ghost use Rattle.xmldsig.specs.Status.{exit_code};
 
-use core_validate::Report;
+use core_validate::{Report, ValidateRefusal};
+use digests_hmac::KeyFault;
 use sig_base::Octets;
 use xml_read::ReadRefusal;
 
@@ -56,10 +57,12 @@ pub enum Refusal {
     NoKeys,
     /// The key file is above its limit, 16,777,216 bytes.
     KeysTooLarge,
+    /// The key file spells no table of keys.
+    Keys(KeyFault),
     /// The bytes are no document.
     Read(ReadRefusal),
-    /// The document or the key file is of a form that this version doesn't validate.
-    NotBuilt,
+    /// The signature is refused.
+    Validate(ValidateRefusal),
 }
 
 /// What a run came to, before anything is printed.
@@ -71,8 +74,8 @@ pub(crate) enum Ending {
     ReadFault,
     /// Memory that was asked for was not given.
     Memory,
-    /// The job is refused.
-    Refused(Refusal),
+    /// The job is refused, which this line says.
+    Refused { refusal: Refusal, line: Octets },
     /// The validation gave a report, of which this is the text.
     Reported { report: Report, text: Octets },
 }

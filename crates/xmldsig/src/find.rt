@@ -75,5 +75,5 @@ pub(crate) fn find<F: Folder>(alloc: Global, job: &Job, folder: &mut F) -> Resul
         Refusal::NoKeys,
         Refusal::KeysTooLarge,
     )?;
-    decide(alloc, doc.bytes(), keys.bytes())
+    decide(alloc, doc.bytes(), keys.bytes(), folder)
 }

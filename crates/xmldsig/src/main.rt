@@ -6,6 +6,7 @@ mod ending;
 mod find;
 mod job;
 mod print;
+mod refusals;
 mod report;
 mod settle;
 #[cfg(test)]

@@ -1,12 +1,10 @@
 //! What is printed about an ending.
 ghost use Rattle.std.specs.Prelude.{◌≡◌, []};
-ghost use Rattle.xmldsig.specs.Texts.{read_line, refusal_line};
 ghost use Rattle.xmldsig.specs.Printed.{Said, report_status, status_of, out_of, err_of};
 
-use crate::ending::{Ending, Refusal, Status};
+use crate::ending::{Ending, Status};
 use core_validate::Report;
 use sig_outside::{Sink, Wrote};
-use xml_read::ReadRefusal;
 
 /// The status of a report.
 fn report_status(report: &Report) -> Status
@@ -14,36 +12,8 @@ fn report_status(report: &Report) -> Status
 {
     match report {
         Report::Valid(_) => Status::Valid,
-        Report::SignatureDiffers | Report::DigestsDiffer(_) => Status::Invalid,
-    }
-}
-
-/// The line of a refusal of the reader.
-fn read_line(cause: ReadRefusal) -> &'static str
-    ensures { result.now ≡ read_line cause }
-{
-    match cause {
-        ReadRefusal::TooLarge => "refused TooLarge\n",
-        ReadRefusal::Encoding => "refused Encoding\n",
-        ReadRefusal::DocType => "refused DocType\n",
-        ReadRefusal::NotWellFormed => "refused NotWellFormed\n",
-        ReadRefusal::Namespaces => "refused Namespaces\n",
-        ReadRefusal::TooDeep => "refused TooDeep\n",
-        ReadRefusal::TooManyRows => "refused TooManyRows\n",
-        ReadRefusal::Memory => "refused Memory\n",
-    }
-}
-
-/// The line of a refusal.
-fn refusal_line(refusal: Refusal) -> &'static str
-    ensures { result.now ≡ refusal_line refusal }
-{
-    match refusal {
-        Refusal::NoDocument => "refused NoDocument\n",
-        Refusal::NoKeys => "refused NoKeys\n",
-        Refusal::KeysTooLarge => "refused KeysTooLarge\n",
-        Refusal::Read(cause) => read_line(cause),
-        Refusal::NotBuilt => "refused NotBuilt\n",
+        Report::SignatureDiffers | Report::ShortTruncation(_) => Status::Invalid,
+        Report::DigestsDiffer(_) => Status::Invalid,
     }
 }
 
@@ -61,11 +31,11 @@ fn say_out<O: Sink, E: Sink>(text: &[u8], status: Status, out: &mut O, err: &mut
 }
 
 /// Writes a line to err, and nothing to out.
-fn say_err<O: Sink, E: Sink>(line: &str, status: Status, out: &mut O, err: &mut E) -> Status
+fn say_err<O: Sink, E: Sink>(line: &[u8], status: Status, out: &mut O, err: &mut E) -> Status
     ensures { Said [] line.now status result (O.written out.old) (O.written out.new) (O.faults out.old) (O.faults out.new) (E.written err.old) (E.written err.new) (E.faults err.old) (E.faults err.new) }
 {
     let _ = out;
-    match err.write_all(line.as_bytes()) {
+    match err.write_all(line) {
         Wrote::Done => status,
         Wrote::Failed => Status::WriteFault,
     }
@@ -77,14 +47,14 @@ pub(crate) fn print<O: Sink, E: Sink>(ending: &Ending, out: &mut O, err: &mut E)
 {
     match ending {
         Ending::Reported { report, text } => say_out(text.bytes(), report_status(report), out, err),
-        Ending::Refused(refusal) => say_err(refusal_line(*refusal), Status::Refused, out, err),
+        Ending::Refused { line, .. } => say_err(line.bytes(), Status::Refused, out, err),
         Ending::Usage => say_err(
-            "usage: xmldsig validate|sign|canon|template|selftest\n",
+            b"usage: xmldsig validate|sign|canon|template|selftest\n",
             Status::Usage,
             out,
             err,
         ),
-        Ending::ReadFault => say_err("fault read\n", Status::ReadFault, out, err),
-        Ending::Memory => say_err("fault memory\n", Status::Memory, out, err),
+        Ending::ReadFault => say_err(b"fault read\n", Status::ReadFault, out, err),
+        Ending::Memory => say_err(b"fault memory\n", Status::Memory, out, err),
     }
 }

@@ -1,5 +1,5 @@
 //! The text of a report.
-ghost use Rattle.std.specs.Prelude.{◌≡◌, ◌++◌, ◌+◌, OnOk, IfOk, codes, string_bytes};
+ghost use Rattle.std.specs.Prelude.{◌≡◌, ◌++◌, ◌+◌, OnOk, IfOk, codes, decimal, string_bytes};
 ghost use Rattle.std.specs.List.{flat_map};
 ghost use Rattle.xmldsig.specs.Texts.{number_word, reference_line, reference_lines, report_text};
 
@@ -60,6 +60,13 @@ fn digests_text(alloc: Global, numbers: &Numbers) -> Result<String, NoMemory>
     Ok(text)
 }
 
+/// The text of an HMAC that is cut to too few bits.
+fn truncation_text(alloc: Global, bits: u32) -> Result<String, NoMemory>
+    ensures { IfOk result (λ text. string_bytes text ≡ codes "invalid truncation " ++ decimal bits ++ codes "\n") }
+{
+    Ok(format!(in alloc; "invalid truncation {}\n", bits)?)
+}
+
 /// The text of a report, as it is printed on standard output.
 pub(crate) fn text_of(alloc: Global, report: &Report) -> Result<Octets, NoMemory>
     ensures { IfOk result (λ text. text ≡ report_text report.now) }
@@ -67,6 +74,7 @@ pub(crate) fn text_of(alloc: Global, report: &Report) -> Result<Octets, NoMemory
     let text = match report {
         Report::Valid(views) => valid_text(alloc, views)?,
         Report::SignatureDiffers => String::from_str(alloc, "invalid signature\n")?,
+        Report::ShortTruncation(bits) => truncation_text(alloc, *bits)?,
         Report::DigestsDiffer(numbers) => digests_text(alloc, numbers)?,
     };
     Ok(Octets::from_vec(text.into_bytes()))

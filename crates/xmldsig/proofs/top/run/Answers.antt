@@ -1,4 +1,4 @@
-use Rattle.std.proofs.Common.{map, string_bytes, Option, Some, None, ◌≡◌}
+use Rattle.std.proofs.Common.{map, string_bytes}
 use Rattle.xmldsig.specs.Outcome.{run_outcome}
 use Rattle.xmldsig.specs.Job.{job_of}
 use Rattle.xmldsig.specs.Ending.{names_for}
