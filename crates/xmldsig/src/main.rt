@@ -4,11 +4,15 @@
 mod decide;
 mod ending;
 mod find;
+#[cfg(test)]
+mod grammar_tests;
 mod job;
 mod print;
 mod refusals;
 mod report;
 mod settle;
+#[cfg(test)]
+mod signed_tests;
 #[cfg(test)]
 mod tests;
 mod top;
