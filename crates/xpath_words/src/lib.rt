@@ -1,0 +1,18 @@
+//! The tokens of an XPath expression (XPath 1.0 §3.7), each with its meaning in the place where it stands.
+//!
+//! A text is cut into its longest tokens; the token before tells whether `*` and a name are operators; a name before `(` is
+//! a node type or a function, a name before `::` an axis. What the grammar takes as one, such as `text()` or `child::`,
+//! becomes one [`Terminal`].
+#![tactic(auto)]
+
+mod axis;
+mod function;
+mod operator;
+mod terminal;
+mod test;
+
+pub use axis::AxisName;
+pub use function::Function;
+pub use operator::BinaryOp;
+pub use terminal::{Offence, Terminal, Token};
+pub use test::NodeTest;
