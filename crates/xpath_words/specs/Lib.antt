@@ -1,1 +1,9 @@
+pub mod Characters
+pub mod Words
+pub mod Reading
+pub mod Meaning
 pub mod Functions
+pub mod Named
+pub mod Prefixes
+pub mod Terminals
+pub mod Tokens

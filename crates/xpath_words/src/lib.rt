@@ -6,13 +6,22 @@
 #![tactic(auto)]
 
 mod axis;
+mod fault;
 mod function;
+mod group;
+mod meaning;
 mod operator;
+mod prefixes;
 mod terminal;
 mod test;
+mod tokens;
+mod word;
 
 pub use axis::AxisName;
+pub use fault::TokensFault;
 pub use function::Function;
 pub use operator::BinaryOp;
+pub use prefixes::Prefixes;
 pub use terminal::{Offence, Terminal, Token};
 pub use test::NodeTest;
+pub use tokens::tokens_of;
