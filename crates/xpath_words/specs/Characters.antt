@@ -1,5 +1,5 @@
 -- Characters of an expression, and runs of them.
-use Rattle.std.specs.Prelude.{ℕ, Bool, false, ◌||◌, ◌==◌, not, List, [], ◌∷◌, if◌then◌else◌}
+use Rattle.std.specs.Prelude.{ℕ, Bool, true, false, ◌||◌, ◌==◌, not, List, [], ◌∷◌, Option, Some, None, if◌then◌else◌}
 use Rattle.xpath_value.specs.Characters as value
 use Rattle.xml_names.specs.Names as names
 
@@ -36,10 +36,20 @@ is_star c = c == 42
 abbrev pub differs : ℕ → ℕ → Bool
 differs mark c = not (c == mark)
 
+-- there are no characters
+abbrev pub is_empty : List ℕ → Bool
+is_empty [] = true
+is_empty (c ∷ cs) = false
+
 -- a character that passes the test comes first
 abbrev pub begins : (ℕ → Bool) → List ℕ → Bool
 begins test [] = false
 begins test (c ∷ cs) = test c
+
+-- the first character
+abbrev pub first : List ℕ → Option ℕ
+first [] = None
+first (c ∷ cs) = Some c
 
 -- what is behind the first character
 abbrev pub behind_first : List ℕ → List ℕ

@@ -1,4 +1,5 @@
 pub mod Characters
+pub mod Classes
 pub mod Words
 pub mod Reading
 pub mod Meaning
@@ -7,3 +8,4 @@ pub mod Named
 pub mod Prefixes
 pub mod Terminals
 pub mod Tokens
+pub mod Given

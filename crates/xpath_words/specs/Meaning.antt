@@ -1,5 +1,6 @@
 -- What `*` and a name mean, by the token before (the rules of XPath 1.0 §3.7 by which tokens are told apart).
 use Rattle.std.specs.Prelude.{ℕ, Bool, true, false, ◌&&◌, List, [], ◌∷◌, Option, Some, None, option_and_then, option_map, if◌then◌else◌, codes, find, bytes_eq, encode_utf8_all}
+use Rattle.xpath_words.specs.Characters.{is_empty}
 use Rattle.xpath_words.specs.Reading.{before_all}
 use Rattle.xpath_words.specs.declared.word.Sign.{Sign}
 use Rattle.xpath_words.specs.declared.word.Sign.TheVariants as signs
@@ -20,11 +21,6 @@ operator_text operators.Div = codes "div"
 -- the operator of this name, given as UTF-8 octets
 abbrev pub operator_named : List ℕ → Option OperatorName
 operator_named name = find (λ o. bytes_eq name (operator_text o)) (operators.Or ∷ operators.And ∷ operators.Mod ∷ operators.Div ∷ [])
-
--- there are no characters
-abbrev pub is_empty : List ℕ → Bool
-is_empty [] = true
-is_empty (c ∷ cs) = false
 
 -- the star
 abbrev pub is_star : Sign → Bool

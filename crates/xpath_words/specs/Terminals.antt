@@ -8,7 +8,7 @@ use Rattle.xpath_value.specs.declared.number.Number.TheVariants as number
 use Rattle.xpath_value.specs.declared.number.NumberFault.{NumberFault}
 use Rattle.xpath_value.specs.declared.number.NumberFault.TheVariants as faults
 use Rattle.xpath_words.specs.Reading.{before_all}
-use Rattle.xpath_words.specs.Meaning.{is_empty}
+use Rattle.xpath_words.specs.Characters.{is_empty}
 use Rattle.xpath_words.specs.Named.{axis_named, type_named, function_named}
 use Rattle.xpath_words.specs.Prefixes.{Pair, namespace_of}
 use Rattle.xpath_words.specs.declared.word.Sign.{Sign}

@@ -1,4 +1,6 @@
 //! The functions, by name.
+ghost use Rattle.std.specs.Prelude.{◌≡◌};
+ghost use Rattle.xpath_words.specs.Named.{function_named};
 
 /// A function of XPath's core library (XPath 1.0 §4), or `here` (XML Signature 1.1 §6.6.3).
 #[derive(Clone, Copy, Debug, PartialEq, Eq, Drop)]
@@ -59,4 +61,43 @@ pub enum Function {
     Round,
     /// `here` (XML Signature 1.1 §6.6.3).
     Here,
+}
+
+impl Function {
+    /// The function of this name. `None` comes exactly where none has it.
+    pub(crate) fn named(name: &str) -> Option<Function>
+        ensures { result ≡ function_named name.now }
+    {
+        match name {
+            "last" => Some(Function::Last),
+            "position" => Some(Function::Position),
+            "count" => Some(Function::Count),
+            "id" => Some(Function::Id),
+            "local-name" => Some(Function::LocalName),
+            "namespace-uri" => Some(Function::NamespaceUri),
+            "name" => Some(Function::Name),
+            "string" => Some(Function::String),
+            "concat" => Some(Function::Concat),
+            "starts-with" => Some(Function::StartsWith),
+            "contains" => Some(Function::Contains),
+            "substring-before" => Some(Function::SubstringBefore),
+            "substring-after" => Some(Function::SubstringAfter),
+            "substring" => Some(Function::Substring),
+            "string-length" => Some(Function::StringLength),
+            "normalize-space" => Some(Function::NormalizeSpace),
+            "translate" => Some(Function::Translate),
+            "boolean" => Some(Function::Boolean),
+            "not" => Some(Function::Not),
+            "true" => Some(Function::True),
+            "false" => Some(Function::False),
+            "lang" => Some(Function::Lang),
+            "number" => Some(Function::Number),
+            "sum" => Some(Function::Sum),
+            "floor" => Some(Function::Floor),
+            "ceiling" => Some(Function::Ceiling),
+            "round" => Some(Function::Round),
+            "here" => Some(Function::Here),
+            _ => None,
+        }
+    }
 }

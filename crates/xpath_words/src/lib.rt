@@ -6,12 +6,16 @@
 #![tactic(auto)]
 
 mod axis;
+mod class;
+mod cursor;
 mod fault;
 mod function;
 mod group;
+mod laws;
 mod meaning;
 mod operator;
 mod prefixes;
+mod reading;
 mod terminal;
 mod test;
 mod tokens;
@@ -20,6 +24,7 @@ mod word;
 pub use axis::AxisName;
 pub use fault::TokensFault;
 pub use function::Function;
+pub use laws::longest_tokens;
 pub use operator::BinaryOp;
 pub use prefixes::Prefixes;
 pub use terminal::{Offence, Terminal, Token};

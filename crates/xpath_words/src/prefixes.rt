@@ -1,5 +1,6 @@
 //! The prefixes in scope of an expression.
-ghost use Rattle.std.specs.Prelude.{◌≡◌, ◌∷◌, ◌++◌, [], OnOk, OnErr};
+ghost use Rattle.std.specs.Prelude.{◌≡◌, ◌∷◌, ◌++◌, [], OnOk, OnErr, map, option_map};
+ghost use Rattle.xpath_words.specs.Prefixes.{namespace_of, pair_of};
 
 use sig_base::NoMemory;
 use std::alloc::Global;
@@ -39,4 +40,24 @@ impl<'p> Prefixes<'p> {
         self.pairs.push((prefix, uri))?;
         Ok(())
     }
+
+    /// The namespace name in the first pair of the prefix.
+    pub(crate) fn namespace_of(&self, prefix: &str) -> Option<&'p str>
+        ensures { option_map (λ u. u.now) result ≡ namespace_of prefix.now self.now }
+    {
+        first_of(&self.pairs, prefix)
+    }
+}
+
+/// The namespace name in the first pair of the prefix.
+#[tactic(auto, unfolding(crate::specs::Prefixes::namespace_of))]
+fn first_of<'p>(pairs: &[(&'p str, &'p str)], prefix: &str) -> Option<&'p str>
+    ensures { option_map (λ u. u.now) result ≡ namespace_of prefix.now (map pair_of pairs.now) }
+{
+    for (bound, uri) in pairs {
+        if *bound == prefix {
+            return Some(uri);
+        }
+    }
+    None
 }

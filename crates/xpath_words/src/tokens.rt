@@ -3,7 +3,10 @@ ghost use Rattle.std.specs.Str.{chars};
 ghost use Rattle.xpath_words.specs.Tokens.{tokens_of, Reads};
 
 use crate::fault::TokensFault;
+use crate::group::grouped;
+use crate::meaning::meanings;
 use crate::prefixes::Prefixes;
+use crate::reading::words_of;
 use crate::terminal::Token;
 use std::alloc::Global;
 
@@ -11,8 +14,15 @@ use std::alloc::Global;
 /// names that `prefixes` gives them.
 ///
 /// `NotXPath` comes exactly where the text has no cut into longest tokens, or a token has no meaning in its place.
-pub fn tokens_of(_alloc: Global, _text: &str, _prefixes: &Prefixes<'_>) -> Result<Vec<Token>, TokensFault>
-    ensures { Reads result (tokens_of (chars _text.now) _prefixes.now) }
+#[tactic(auto, unfolding(crate::specs::Tokens::tokens_of))]
+pub fn tokens_of(
+    alloc: Global,
+    text: &str,
+    prefixes: &Prefixes<'_>,
+) -> Result<Vec<Token>, TokensFault>
+    ensures { Reads result (tokens_of (chars text.now) prefixes.now) }
 {
-    Err(TokensFault::Memory)
+    let words = words_of(alloc, text)?;
+    let meant = meanings(alloc, words)?;
+    grouped(alloc, &meant, prefixes)
 }

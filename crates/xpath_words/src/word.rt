@@ -1,4 +1,6 @@
 //! The tokens as they are spelled.
+ghost use Rattle.std.specs.Prelude.{◌≡◌};
+ghost use Rattle.xpath_words.specs.Meaning.{is_star, closes};
 
 use sig_base::Text;
 
@@ -49,6 +51,25 @@ pub enum Sign {
     Star,
     /// `$`.
     Dollar,
+}
+
+impl Sign {
+    /// Whether this is the star.
+    pub fn is_star(self) -> bool
+        ensures { result ≡ is_star self }
+    {
+        matches!(self, Sign::Star)
+    }
+
+    /// Whether an operand may end with these signs.
+    pub fn closes(self) -> bool
+        ensures { result ≡ closes self }
+    {
+        matches!(
+            self,
+            Sign::Close | Sign::CloseBracket | Sign::Dot | Sign::DoubleDot
+        )
+    }
 }
 
 /// A token as it is spelled (ExprToken of XPath 1.0 §3.7).
