@@ -4,3 +4,4 @@ pub mod WordLaws
 pub mod TextLaws
 pub mod Turns
 pub mod Groups
+pub mod WorkedExamples

@@ -300,34 +300,34 @@ name_with_read : (s cs : List ℕ) → IsNCName s → Read (s ++ cs) (name_with 
 name_with_read s cs h =
     chosen_one (follows is_star cs) (s ++ cs) (words.AnyIn s, behind_first (behind_first cs)) _
     (λ e.
-      let q = follows_is is_star cs e in
-      let star = begins_star (behind_first cs) q.1 in
-      record {
-        spelled = s ++ (58 ∷ (42 ∷ []));
-        spells = any_in s h;
-        parts = ap (λ (t : List ℕ). s ++ t) (q.0 ∙ ap (λ (t : List ℕ). 58 ∷ t) star) ∙ sym (append_assoc s (58 ∷ (42 ∷ [])) (behind_first (behind_first cs)));
-      })
+    let q = follows_is is_star cs e in
+    let star = begins_star (behind_first cs) q.1 in
+    record {
+      spelled = s ++ (58 ∷ (42 ∷ []));
+      spells = any_in s h;
+      parts = ap (λ (t : List ℕ). s ++ t) (q.0 ∙ ap (λ (t : List ℕ). 58 ∷ t) star) ∙ sym (append_assoc s (58 ∷ (42 ∷ [])) (behind_first (behind_first cs)));
+    })
     (λ no_star. chosen_one (follows begins_name cs) (s ++ cs) (words.Name s (front is_in_name (behind_first cs)), behind is_in_name (behind_first cs)) (words.Name [] s, cs)
     (λ e.
-      let q = follows_is begins_name cs e in
-      let local = front is_in_name (behind_first cs) in
-      record {
-        spelled = s ++ (58 ∷ local);
-        spells = qualified s local h (name_front (behind_first cs) q.1);
-        parts = ap (λ (t : List ℕ). s ++ t) (q.0 ∙ ap (λ (t : List ℕ). 58 ∷ t) (run_parts is_in_name (behind_first cs))) ∙ sym (append_assoc s (58 ∷ local) (behind is_in_name (behind_first cs)));
-      })
+    let q = follows_is begins_name cs e in
+    let local = front is_in_name (behind_first cs) in
+    record {
+      spelled = s ++ (58 ∷ local);
+      spells = qualified s local h (name_front (behind_first cs) q.1);
+      parts = ap (λ (t : List ℕ). s ++ t) (q.0 ∙ ap (λ (t : List ℕ). 58 ∷ t) (run_parts is_in_name (behind_first cs))) ∙ sym (append_assoc s (58 ∷ local) (behind is_in_name (behind_first cs)));
+    })
     (λ no_name. record { spelled = s; spells = name s h; parts = refl }))
 
 number_with_read : (s cs : List ℕ) → AreDigits s → Read (s ++ cs) (number_with s cs)
 number_with_read s cs h =
     chosen_one (begins is_point cs) (s ++ cs) (words.Number (s ++ (46 ∷ front is_digit (behind_first cs))), behind is_digit (behind_first cs)) (words.Number s, cs)
     (λ e.
-      let part = front is_digit (behind_first cs) in
-      record {
-        spelled = s ++ (46 ∷ part);
-        spells = decimal s part h (run_passes is_digit (behind_first cs));
-        parts = ap (λ (t : List ℕ). s ++ t) (begins_point cs e ∙ ap (λ (t : List ℕ). 46 ∷ t) (run_parts is_digit (behind_first cs))) ∙ sym (append_assoc s (46 ∷ part) (behind is_digit (behind_first cs)));
-      })
+    let part = front is_digit (behind_first cs) in
+    record {
+      spelled = s ++ (46 ∷ part);
+      spells = decimal s part h (run_passes is_digit (behind_first cs));
+      parts = ap (λ (t : List ℕ). s ++ t) (begins_point cs e ∙ ap (λ (t : List ℕ). 46 ∷ t) (run_parts is_digit (behind_first cs))) ∙ sym (append_assoc s (46 ∷ part) (behind is_digit (behind_first cs)));
+    })
     (λ no_point. record { spelled = s; spells = whole s h; parts = refl })
 
 same_text : (xs ys : List ℕ) (r : Front) → xs ≡ ys → Read ys r → Read xs r
@@ -366,11 +366,11 @@ literal_until_read mark cs q =
     chosen (is_empty (behind (differs mark) cs)) (mark ∷ cs) None (Some (words.Literal (front (differs mark) cs), behind_first (behind (differs mark) cs)))
     (λ e. tt)
     (λ e.
-      record {
-        spelled = mark ∷ (front (differs mark) cs ++ (mark ∷ []));
-        spells = literal mark (front (differs mark) cs) q (run_passes (differs mark) cs);
-        parts = ap (λ (t : List ℕ). mark ∷ t) (run_parts (differs mark) cs ∙ ap (λ (t : List ℕ). front (differs mark) cs ++ t) (ends_at mark cs (behind (differs mark) cs) refl e) ∙ sym (append_assoc (front (differs mark) cs) (mark ∷ []) (behind_first (behind (differs mark) cs))));
-      })
+    record {
+      spelled = mark ∷ (front (differs mark) cs ++ (mark ∷ []));
+      spells = literal mark (front (differs mark) cs) q (run_passes (differs mark) cs);
+      parts = ap (λ (t : List ℕ). mark ∷ t) (run_parts (differs mark) cs ∙ ap (λ (t : List ℕ). front (differs mark) cs ++ t) (ends_at mark cs (behind (differs mark) cs) refl e) ∙ sym (append_assoc (front (differs mark) cs) (mark ∷ []) (behind_first (behind (differs mark) cs))));
+    })
 
 literal_of_read : (xs : List ℕ) → begins is_quote xs ≡ true → IsRead xs (literal_of xs)
 unfolding literal_of

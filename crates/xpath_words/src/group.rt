@@ -356,11 +356,19 @@ fn group_at(
 fn behind_many(all: &[Meant], count: usize) -> &[Meant]
     ensures { result.now ≡ drop count all.now }
 {
-    if count <= all.len() { &all[count..] } else { &[] }
+    if count <= all.len() {
+        &all[count..]
+    } else {
+        &[]
+    }
 }
 
 /// The terminals of meant tokens.
-pub fn grouped(alloc: Global, meant: &[Meant], prefixes: &Prefixes<'_>) -> Result<Vec<Token>, TokensFault>
+pub fn grouped(
+    alloc: Global,
+    meant: &[Meant],
+    prefixes: &Prefixes<'_>,
+) -> Result<Vec<Token>, TokensFault>
     ensures { Collects result (grouped prefixes.now meant.now) }
 {
     let mut tokens = Vec::new(alloc);

@@ -18,6 +18,8 @@ mod prefixes;
 mod reading;
 mod terminal;
 mod test;
+#[cfg(test)]
+mod tests;
 mod tokens;
 mod word;
 
