@@ -1,9 +1,9 @@
 -- One turn of the loop over meant tokens.
-use Rattle.std.proofs.Common.{◌≡◌, ℕ, zero, suc, ◌≤◌, ◌<◌, List, [], ◌∷◌, ◌++◌, length, drop, Option, Some, None, refl, sym, ap, ◌∙◌, append-nil, length-drop, arith}
+use Rattle.std.proofs.Common.{◌≡◌, ℕ, zero, suc, ◌<◌, List, [], ◌∷◌, ◌++◌, length, drop, Option, Some, None, refl, sym, ap, ◌∙◌, append-nil, length-drop, arith}
 use Rattle.std.specs.Prelude.{slice_get}
 use Rattle.xpath_words.specs.Reading.{before_all}
 use Rattle.xpath_words.specs.Prefixes.{Pair}
-use Rattle.xpath_words.specs.Terminals.{Group, behind_first, group_at, groups_behind}
+use Rattle.xpath_words.specs.Terminals.{behind_first, group_at, groups_behind}
 use Rattle.xpath_words.specs.Given.{Fails, with_front}
 use Rattle.xpath_words.specs.declared.meaning.Meant.{Meant}
 use Rattle.xpath_words.specs.declared.terminal.Token.{Token}

@@ -1,10 +1,10 @@
 -- Which classes of characters exclude each other.
-use Rattle.std.proofs.Common.{◌≡◌, ℕ, ◌<◌, ◌≤◌, Bool, true, false, List, [], ◌∷◌, refl, sym, ap, subst, ◌∙◌, arith}
+use Rattle.std.proofs.Common.{◌≡◌, ℕ, ◌<◌, ◌≤◌, Bool, true, false, List, [], ◌∷◌, refl, sym, ◌∙◌, arith}
 use Rattle.std.specs.Prelude.{◌&&◌, ◌||◌, ◌==◌, not, nat_le}
 use Rattle.std.specs.List.{list_all}
 use Rattle.std.proofs.lemmas.Bool.{eqb-true, false≢true}
-use Rattle.xml_names.specs.Characters.{Range, in_range, in_some, name_start_ranges, is_name_start, is_name_char}
-use Rattle.xpath_words.specs.Characters.{is_space, is_digit, is_quote, is_point, is_star, begins_name, is_in_name}
+use Rattle.xml_names.specs.Characters.{Range, in_some, name_start_ranges, is_name_start, is_name_char}
+use Rattle.xpath_words.specs.Characters.{is_space, is_digit, is_quote, is_star, begins_name, is_in_name}
 
 pub not_true : (b : Bool) → (b ≡ true → ⊥) → b ≡ false
 not_true true n = absurd (n refl)
@@ -72,10 +72,6 @@ start_is_no_star c e = not_true (is_star c) (λ h. let i : c ≡ 42 = eqb-true c
 pub colon_is_not_in_name : is_in_name 58 ≡ false
 unfolding is_name_start is_name_char
 colon_is_not_in_name = refl
-
-pub point_is_no_name : begins_name 46 ≡ false
-unfolding is_name_start
-point_is_no_name = refl
 
 -- ---- No token begins with white space
 

@@ -79,16 +79,6 @@ unfolding front
 front_run p [] rest e = refl
 front_run p (x ∷ s) rest e = let q = both (p x) (list_all p s) e in rw q.0 (ap (λ (t : List ℕ). x ∷ t) (front_run p s rest q.1))
 
-pub front_whole : (p : ℕ → Bool) (s : List ℕ) → list_all p s ≡ true → front p s ≡ s
-unfolding front
-front_whole p [] e = refl
-front_whole p (x ∷ s) e = let q = both (p x) (list_all p s) e in rw q.0 (ap (λ (t : List ℕ). x ∷ t) (front_whole p s q.1))
-
-pub behind_whole : (p : ℕ → Bool) (s : List ℕ) → list_all p s ≡ true → behind p s ≡ []
-unfolding behind
-behind_whole p [] e = refl
-behind_whole p (x ∷ s) e = let q = both (p x) (list_all p s) e in rw q.0 (behind_whole p s q.1)
-
 pub behind_at : (p : ℕ → Bool) (x : ℕ) (rest : List ℕ) → p x ≡ false → behind p (x ∷ rest) ≡ x ∷ rest
 unfolding behind
 behind_at p x rest e = rw e refl

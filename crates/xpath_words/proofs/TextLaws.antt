@@ -1,16 +1,14 @@
 -- The tokens of a text are just those that it spells, the longest one each time.
-use Rattle.std.proofs.Common.{◌≡◌, ℕ, zero, suc, ◌+◌, ◌-◌, ◌≤◌, ◌<◌, Bool, true, false, cond, List, [], ◌∷◌, ◌++◌, length, Option, Some, None, refl, sym, ap, subst, ◌∙◌, append_assoc, length-append, arith}
-use Rattle.std.specs.Prelude.{option_and_then, ◌↔◌}
+use Rattle.std.proofs.Common.{◌≡◌, ℕ, zero, suc, ◌-◌, ◌≤◌, ◌<◌, true, false, List, [], ◌∷◌, ◌++◌, length, Option, Some, None, refl, sym, ap, subst, ◌∙◌, length-append, arith}
+use Rattle.std.specs.Prelude.{◌↔◌}
 use Rattle.std.specs.List.{list_all}
-use Rattle.std.proofs.lemmas.Bool.{eqb-true, false≢true}
-use Rattle.xml_names.specs.Characters.{is_name_start}
-use Rattle.xpath_words.specs.Characters.{is_space, is_digit, is_quote, begins_name}
+use Rattle.xpath_words.specs.Characters.{is_space}
 use Rattle.xpath_words.specs.Words.{sign_text, IsNCName, AreDigits, Spells, sign, literal, whole, decimal, fraction, name, qualified, any_in, IsLongest, SpellsAll, no_more, one_more}
 use Rattle.xpath_words.specs.Reading.{Front, word_of, before_all, words_behind, words_of}
 use Rattle.xpath_words.specs.declared.word.Sign.{Sign}
 use Rattle.xpath_words.specs.declared.word.Sign.TheVariants as signs
 use Rattle.xpath_words.specs.declared.word.Word.{Word}
-use Rattle.xpath_words.proofs.Letters.{both, not_true, either_of, digit_is_no_space, name_is_no_space, quote_is_no_space}
+use Rattle.xpath_words.proofs.Letters.{both, digit_is_no_space, name_is_no_space, quote_is_no_space}
 use Rattle.xpath_words.proofs.Runs.{some_is}
 use Rattle.xpath_words.proofs.WordLaws.{Longest, word_longest, longest_read}
 

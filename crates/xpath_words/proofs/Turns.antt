@@ -1,7 +1,7 @@
 -- One turn of the loop over a text's tokens.
-use Rattle.std.proofs.Common.{◌≡◌, ℕ, suc, ◌<◌, Bool, true, false, List, [], ◌∷◌, ◌++◌, length, Option, Some, None, refl, sym, ap, subst, ◌∙◌, append_assoc, append-nil, arith}
+use Rattle.std.proofs.Common.{◌≡◌, ℕ, true, false, List, [], ◌∷◌, ◌++◌, Option, Some, None, refl, sym, ap, subst, ◌∙◌, append_assoc, append-nil}
 use Rattle.xpath_words.specs.Characters.{is_space, is_empty, begins, behind_first}
-use Rattle.xpath_words.specs.Reading.{Front, word_of, before_all, words_behind}
+use Rattle.xpath_words.specs.Reading.{word_of, before_all, words_behind}
 use Rattle.std.specs.Prelude.{Result, Ok, Err, Vec}
 use Rattle.std.specs.Result.{IsErrAnd}
 use Rattle.xpath_words.specs.Given.{Fails, Collects, with_front}
@@ -15,17 +15,9 @@ pub front_again : {X : Type 0} (before : List X) (x : X) (o : Option (List X)) �
 front_again before x None = refl
 front_again {X} before x (Some xs) = ap (λ (t : List X). Some t) (append_assoc before (x ∷ []) xs)
 
-pub front_none : {X : Type 0} (o : Option (List X)) → with_front [] o ≡ o
-front_none None = refl
-front_none (Some xs) = refl
-
 pub space_turn : (xs : List ℕ) → begins is_space xs ≡ true → words_behind 0 (behind_first xs) ≡ words_behind 0 xs
 space_turn [] e = absurd cc
 space_turn (c ∷ cs) e = sym (space_read c cs e)
-
-pub space_shorter : (xs : List ℕ) → is_empty xs ≡ false → length (behind_first xs) < length xs
-space_shorter [] e = absurd cc
-space_shorter (c ∷ cs) e = omega arith
 
 pub word_turn : (before after : List Word) (xs rest : List ℕ) (w : Word) (all : Option (List Word)) → is_empty xs ≡ false → begins is_space xs ≡ false
     → word_of xs ≡ Some (w, rest) → with_front before (words_behind 0 xs) ≡ all → after ≡ before ++ (w ∷ []) → with_front after (words_behind 0 rest) ≡ all

@@ -1,20 +1,20 @@
 -- The token that is read at the front of a text is the longest one that stands there, and each token that stands there alone is
 -- read.
-use Rattle.std.proofs.Common.{◌≡◌, ℕ, zero, suc, ◌+◌, ◌≤◌, ◌<◌, Bool, true, false, cond, eqb, List, [], ◌∷◌, ◌++◌, length, Option, Some, None, refl, sym, ap, subst, ◌∙◌, append_assoc, append-nil, length-append, arith}
-use Rattle.std.specs.Prelude.{codes, bytes_eq, find, ◌&&◌, ◌==◌}
+use Rattle.std.proofs.Common.{◌≡◌, ℕ, ◌+◌, ◌≤◌, Bool, true, false, cond, List, [], ◌∷◌, ◌++◌, length, Option, Some, None, refl, sym, ap, subst, ◌∙◌, append_assoc, append-nil, length-append, arith}
+use Rattle.std.specs.Prelude.{bytes_eq, find, ◌&&◌, ◌==◌}
 use Rattle.std.proofs.lemmas.Slice.Eq.{bytes_eq-Decides}
 use Rattle.std.specs.List.{list_all}
-use Rattle.std.proofs.lemmas.Bool.{eqb-true, eq-eqb, false≢true}
-use Rattle.xml_names.specs.Characters.{is_name_start, is_name_char}
-use Rattle.xpath_words.specs.Characters.{is_space, is_digit, is_quote, is_point, is_colon, is_star, differs, begins_name, is_in_name, begins, is_empty, first, behind_first, front, behind}
+use Rattle.std.proofs.lemmas.Bool.{eqb-true, eq-eqb}
+use Rattle.xml_names.specs.Characters.{is_name_start}
+use Rattle.xpath_words.specs.Characters.{is_digit, is_quote, is_point, is_star, differs, begins_name, is_in_name, begins, is_empty, first, behind_first, front, behind}
 use Rattle.xpath_words.specs.Words.{sign_text, IsNCName, AreDigits, Spells, sign, literal, whole, decimal, fraction, name, qualified, any_in, IsLongest}
 use Rattle.xpath_words.specs.Reading.{Front, long_signs, short_signs, long_sign, short_sign, long_before, signed, longer, sign_of, literal_until, literal_of, number_with, number_of, fraction_of, follows, name_with, name_of, word_of}
 use Rattle.xpath_words.specs.declared.word.Sign.{Sign}
 use Rattle.xpath_words.specs.declared.word.Sign.TheVariants as signs
 use Rattle.xpath_words.specs.declared.word.Word.{Word}
 use Rattle.xpath_words.specs.declared.word.Word.TheVariants as words
-use Rattle.xpath_words.proofs.Letters.{both, not_true, not_false, digit_is_no_name, low_is_no_name, quote_low, quote_is_no_digit, start_is_in_name, start_is_no_star, colon_is_not_in_name, point_is_no_name}
-use Rattle.xpath_words.proofs.Runs.{run_parts, run_passes, behind_run, front_run, front_whole, behind_whole, behind_at, front_at, behind_le, behind_first_le, run_ends, some_is}
+use Rattle.xpath_words.proofs.Letters.{both, not_false, digit_is_no_name, low_is_no_name, quote_low, quote_is_no_digit, start_is_in_name, start_is_no_star, colon_is_not_in_name}
+use Rattle.xpath_words.proofs.Runs.{run_parts, run_passes, behind_run, front_run, behind_at, front_at, behind_le, behind_first_le, run_ends, some_is}
 
 -- ---- No token is longer than the one that is read
 
@@ -268,11 +268,6 @@ chosen_one : (b : Bool) (xs : List ℕ) (o q : Front) → (b ≡ true → Read x
 chosen_one true xs o q f g = f refl
 chosen_one false xs o q f g = g refl
 
--- the characters that begin with a class
-begins_with : (p : ℕ → Bool) (xs : List ℕ) (A : Type 0) → ((c : ℕ) (cs : List ℕ) → xs ≡ c ∷ cs → p c ≡ true → A) → begins p xs ≡ true → A
-begins_with p [] A f e = absurd cc
-begins_with p (c ∷ cs) A f e = f c cs refl e
-
 -- the run at the front of a name is a name, and that of a number are digits
 name_front : (xs : List ℕ) → begins begins_name xs ≡ true → IsNCName (front is_in_name xs)
 unfolding front
@@ -447,10 +442,6 @@ word_longest xs r e =
       parts = h.parts;
       longest = λ other rest word k f. no_longer xs h.spelled other r.1 rest r.0 word e h.parts k f;
     }
-
--- where nothing is read, no token stands at the front
-pub none_stands : (s rest : List ℕ) (w : Word) → Spells s w → word_of (s ++ rest) ≡ None → ⊥
-none_stands s rest w h e = subst (Leaves rest) e (leaves s rest w h)
 
 -- two fronts of one length are one
 same_front : (a b c d : List ℕ) → a ++ b ≡ c ++ d → length a ≡ length c → (a ≡ c) × (b ≡ d)

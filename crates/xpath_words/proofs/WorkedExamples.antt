@@ -1,5 +1,5 @@
 -- The definitions, computed on short texts.
-use Rattle.std.proofs.Common.{◌≡◌, ℕ, List, refl, [], ◌∷◌, Some, None, false}
+use Rattle.std.proofs.Common.{◌≡◌, refl, [], ◌∷◌, Some, None, false}
 use Rattle.std.specs.Prelude.{codes, pos}
 use lib.Utf8.{encode}
 use Rattle.xpath_value.specs.Characters.{stripped_start, stripped_end}
@@ -8,9 +8,9 @@ use Rattle.xpath_value.specs.Numbers as numbers
 use Rattle.xpath_value.specs.declared.number.Number.TheVariants as number
 use Rattle.xml_names.specs.Characters.{is_name_start, is_name_char}
 use Rattle.xpath_words.specs.Characters.{front, behind}
-use Rattle.xpath_words.specs.Reading.{long_sign, short_sign, sign_of, literal_of, number_of, fraction_of, name_of, word_of, words_behind, words_of}
+use Rattle.xpath_words.specs.Reading.{long_sign, short_sign, sign_of, number_of, name_of, word_of, words_behind, words_of}
 use Rattle.xpath_words.specs.Meaning.{meanings}
-use Rattle.xpath_words.specs.Prefixes.{Pair, namespace_of}
+use Rattle.xpath_words.specs.Prefixes.{namespace_of}
 use Rattle.xpath_words.specs.Terminals.{lawful, offending, group_at, groups_behind}
 use Rattle.xpath_words.specs.Tokens.{tokens_of}
 use Rattle.xpath_words.specs.declared.word.Sign.TheVariants as signs

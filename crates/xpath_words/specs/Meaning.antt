@@ -1,5 +1,5 @@
 -- What `*` and a name mean, by the token before (the rules of XPath 1.0 §3.7 by which tokens are told apart).
-use Rattle.std.specs.Prelude.{ℕ, Bool, true, false, ◌&&◌, List, [], ◌∷◌, Option, Some, None, option_and_then, option_map, if◌then◌else◌, codes, find, bytes_eq, encode_utf8_all}
+use Rattle.std.specs.Prelude.{ℕ, Bool, true, false, List, [], ◌∷◌, Option, Some, None, option_and_then, option_map, if◌then◌else◌, codes, find, bytes_eq, encode_utf8_all}
 use Rattle.xpath_words.specs.Characters.{is_empty}
 use Rattle.xpath_words.specs.Reading.{before_all}
 use Rattle.xpath_words.specs.declared.word.Sign.{Sign}

@@ -1,6 +1,6 @@
 -- The terminals of the grammar (XPath 1.0 §2.3, §3.1 and §3.7), each of one token or of several that belong together, and what
 -- is wrong with them.
-use Rattle.std.specs.Prelude.{ℕ, suc, zero, Bool, true, false, List, [], ◌∷◌, Option, Some, None, Result, Ok, Err, option_and_then, option_map, if◌then◌else◌, encode_utf8_all}
+use Rattle.std.specs.Prelude.{ℕ, suc, zero, Bool, true, false, List, [], ◌∷◌, Option, Some, None, Result, Ok, Err, option_and_then, if◌then◌else◌, encode_utf8_all}
 use Rattle.std.specs.Str.{chars}
 use Rattle.xpath_value.specs.Numbers as numbers
 use Rattle.xpath_value.specs.declared.number.Number.{Number}

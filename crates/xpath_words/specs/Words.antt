@@ -1,5 +1,5 @@
 -- The tokens of a text, the longest one each time (XPath 1.0 §3.7, ExprToken).
-use Rattle.std.specs.Prelude.{◌≡◌, ℕ, ◌≤◌, Bool, true, false, List, [], ◌∷◌, ◌++◌, length, codes}
+use Rattle.std.specs.Prelude.{◌≡◌, ℕ, ◌≤◌, true, List, [], ◌∷◌, ◌++◌, length, codes}
 use Rattle.std.specs.List.{list_all}
 use Rattle.xpath_words.specs.Characters.{is_space, is_digit, is_quote, differs, begins_name, is_in_name}
 use Rattle.xpath_words.specs.declared.word.Sign.{Sign}

@@ -3,6 +3,9 @@
 //! A text is cut into its longest tokens; the token before tells whether `*` and a name are operators; a name before `(` is
 //! a node type or a function, a name before `::` an axis. What the grammar takes as one, such as `text()` or `child::`,
 //! becomes one [`Terminal`].
+//!
+//! The `$` of a variable is a token of its own here, so that white space may stand behind it; the name that follows is a
+//! plain one, even where it is `or`. `prefix:*` is one token, in which no white space stands.
 #![tactic(auto)]
 
 mod axis;

@@ -10,8 +10,8 @@ use crate::reading::words_of;
 use crate::terminal::Token;
 use std::alloc::Global;
 
-/// The tokens of an expression's text, each with its meaning in its place (XPath 1.0 §3.7). Prefixes stand for the namespace
-/// names that `prefixes` gives them.
+/// The tokens of an expression's text, each with its meaning in its place (XPath 1.0 §3.7). Prefixes stand for the
+/// namespace names that `prefixes` gives them.
 ///
 /// `NotXPath` comes exactly where the text has no cut into longest tokens, or a token has no meaning in its place.
 #[tactic(auto, unfolding(crate::specs::Tokens::tokens_of))]
