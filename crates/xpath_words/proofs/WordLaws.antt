@@ -86,7 +86,9 @@ same_ends mark = rw (eq-eqb mark mark refl) refl
 
 literal_read_at : (mark : ℕ) (text rest : List ℕ) → list_all (differs mark) text ≡ true → literal_until mark (text ++ (mark ∷ rest)) ≡ Some (words.Literal text, rest)
 literal_read_at mark text rest e =
-    rw (behind_run (differs mark) text (mark ∷ rest) e, behind_at (differs mark) mark rest (same_ends mark), front_run (differs mark) text (mark ∷ rest) e, front_at (differs mark) mark rest (same_ends mark), append-nil) refl
+    let p : ℕ → Bool = differs mark in
+    let ends : p mark ≡ false = same_ends mark in
+    rw (behind_run p text (mark ∷ rest) e, behind_at p mark rest ends, front_run p text (mark ∷ rest) e, front_at p mark rest ends, append-nil) refl
 
 literal_read : (mark : ℕ) (text rest : List ℕ) → is_quote mark ≡ true → list_all (differs mark) text ≡ true
     → word_of ((mark ∷ (text ++ (mark ∷ []))) ++ rest) ≡ Some (words.Literal text, rest)
@@ -130,23 +132,25 @@ fraction_read (c ∷ cs) rest h =
 behind_second : (s rest : List ℕ) → IsNCName s → behind is_in_name (s ++ rest) ≡ behind is_in_name rest
 behind_second s rest h = behind_run is_in_name s rest (name_passes s h)
 
+-- a choice leaves no more than each side does
+either_leaves : (b : Bool) (o q : Front) (n : ℕ) → length o.1 ≤ n → length q.1 ≤ n → length (cond {A = Front} b o q).1 ≤ n
+either_leaves true o q n h k = h
+either_leaves false o q n h k = k
+
+-- what is behind two characters, and behind a run that begins with the second one
+two_less : (cs : List ℕ) → length (behind_first (behind_first cs)) ≤ length cs
+two_less cs = let h = behind_first_le cs in let k = behind_first_le (behind_first cs) in omega (arith, h, k)
+
+run_less : (p : ℕ → Bool) (cs : List ℕ) → length (behind p (behind_first cs)) ≤ length cs
+run_less p cs = let h = behind_first_le cs in let k = behind_le p (behind_first cs) in omega (arith, h, k)
+
 name_with_leaves : (s cs : List ℕ) → length (name_with s cs).1 ≤ length cs
 name_with_leaves s cs =
-    elim (follows is_star cs) as (λ b. length (cond {A = Front} b (words.AnyIn s, behind_first (behind_first cs)) (cond {A = Front} (follows begins_name cs) (words.Name s (front is_in_name (behind_first cs)), behind is_in_name (behind_first cs)) (words.Name [] s, cs))).1 ≤ length cs) [
-      | true ↦ let h = behind_first_le cs in let k = behind_first_le (behind_first cs) in omega (arith, h, k)
-      | false ↦
-          elim (follows begins_name cs) as (λ b. length (cond {A = Front} b (words.Name s (front is_in_name (behind_first cs)), behind is_in_name (behind_first cs)) (words.Name [] s, cs)).1 ≤ length cs) [
-            | true ↦ let h = behind_first_le cs in let k = behind_le is_in_name (behind_first cs) in omega (arith, h, k)
-            | false ↦ omega arith
-          ]
-    ]
+    either_leaves (follows is_star cs) _ _ _ (two_less cs)
+    (either_leaves (follows begins_name cs) _ (words.Name [] s, cs) _ (run_less is_in_name cs) (omega arith))
 
 number_with_leaves : (s cs : List ℕ) → length (number_with s cs).1 ≤ length cs
-number_with_leaves s cs =
-    elim (begins is_point cs) as (λ b. length (cond {A = Front} b (words.Number (s ++ (46 ∷ front is_digit (behind_first cs))), behind is_digit (behind_first cs)) (words.Number s, cs)).1 ≤ length cs) [
-      | true ↦ let h = behind_first_le cs in let k = behind_le is_digit (behind_first cs) in omega (arith, h, k)
-      | false ↦ omega arith
-    ]
+number_with_leaves s cs = either_leaves (begins is_point cs) _ (words.Number s, cs) _ (run_less is_digit cs) (omega arith)
 
 -- behind the parts of a qualified name
 colon_behind : (rest : List ℕ) → behind is_in_name (58 ∷ rest) ≡ 58 ∷ rest
@@ -356,15 +360,25 @@ ends_at : (mark : ℕ) (cs ys : List ℕ) → behind (differs mark) cs ≡ ys �
 ends_at mark cs [] e n = absurd cc
 ends_at mark cs (y ∷ ys) e n = ap (λ (c : ℕ). c ∷ ys) (mark_ends mark cs ys y e)
 
+literal_parts : (mark : ℕ) (cs text ends : List ℕ) → front (differs mark) cs ≡ text → behind (differs mark) cs ≡ ends → is_empty ends ≡ false
+    → mark ∷ cs ≡ (mark ∷ (text ++ (mark ∷ []))) ++ behind_first ends
+literal_parts mark cs text ends e f n =
+    ap (λ (t : List ℕ). mark ∷ t)
+    (run_parts (differs mark) cs
+    ∙ ap (λ (t : List ℕ). t ++ behind (differs mark) cs) e
+    ∙ ap (λ (t : List ℕ). text ++ t) (f ∙ ends_at mark cs ends f n)
+    ∙ sym (append_assoc text (mark ∷ []) (behind_first ends)))
+
 literal_until_read : (mark : ℕ) (cs : List ℕ) → is_quote mark ≡ true → IsRead (mark ∷ cs) (literal_until mark cs)
 literal_until_read mark cs q =
-    chosen (is_empty (behind (differs mark) cs)) (mark ∷ cs) None (Some (words.Literal (front (differs mark) cs), behind_first (behind (differs mark) cs)))
-    (λ e. tt)
+    let text : List ℕ = front (differs mark) cs in
+    let ends : List ℕ = behind (differs mark) cs in
+    chosen (is_empty ends) (mark ∷ cs) None (Some (words.Literal text, behind_first ends)) (λ e. tt)
     (λ e.
     record {
-      spelled = mark ∷ (front (differs mark) cs ++ (mark ∷ []));
-      spells = literal mark (front (differs mark) cs) q (run_passes (differs mark) cs);
-      parts = ap (λ (t : List ℕ). mark ∷ t) (run_parts (differs mark) cs ∙ ap (λ (t : List ℕ). front (differs mark) cs ++ t) (ends_at mark cs (behind (differs mark) cs) refl e) ∙ sym (append_assoc (front (differs mark) cs) (mark ∷ []) (behind_first (behind (differs mark) cs))));
+      spelled = mark ∷ (text ++ (mark ∷ []));
+      spells = literal mark text q (run_passes (differs mark) cs);
+      parts = literal_parts mark cs text ends refl refl e;
     })
 
 literal_of_read : (xs : List ℕ) → begins is_quote xs ≡ true → IsRead xs (literal_of xs)

@@ -49,11 +49,13 @@ ends_operand (meant.Number text) = true
 
 -- a name behind an operand, which must be an operator
 abbrev pub operator_of : List ℕ → List ℕ → Option Meant
-operator_of prefix local = if is_empty prefix then option_map (λ o. meant.Operator o) (operator_named (encode_utf8_all local)) else None
+operator_of prefix local =
+    if is_empty prefix then option_map (λ o. meant.Operator o) (operator_named (encode_utf8_all local)) else None
 
 -- what a token means, behind an operand or not
 abbrev pub meaning_of : Bool → Word → Option Meant
-meaning_of is_behind (words.Sign s) = Some (if is_star s then (if is_behind then meant.Multiply else meant.Any) else meant.Sign s)
+meaning_of is_behind (words.Sign s) =
+    Some (if is_star s then (if is_behind then meant.Multiply else meant.Any) else meant.Sign s)
 meaning_of is_behind (words.Literal text) = Some (meant.Literal text)
 meaning_of is_behind (words.Number text) = Some (meant.Number text)
 meaning_of is_behind (words.Name prefix local) = if is_behind then operator_of prefix local else Some (meant.Name prefix local)

@@ -127,7 +127,8 @@ named_in_token None local = offending (terminals.Test (tests.Named [] local)) of
 -- a name as a test; without a prefix it is in no namespace (XPath 1.0 §2.3)
 abbrev pub name_token : List Pair → List ℕ → List ℕ → Token
 name_token pairs prefix local =
-    if is_empty prefix then lawful (terminals.Test (tests.Named [] local)) else named_in_token (namespace_of (encode_utf8_all prefix) pairs) local
+    if is_empty prefix then lawful (terminals.Test (tests.Named [] local))
+    else named_in_token (namespace_of (encode_utf8_all prefix) pairs) local
 
 -- a name before `::`
 abbrev pub axis_group : Option AxisName → Option Group
@@ -188,7 +189,8 @@ group_at pairs (meant.Number text) more = Some (number_token (numbers.number_of 
 unfoldable pub groups_behind : List Pair → ℕ → List Meant → Option (List Token)
 groups_behind pairs k [] = Some []
 groups_behind pairs (suc k) (m ∷ more) = groups_behind pairs k more
-groups_behind pairs zero (m ∷ more) = option_and_then (λ (g : Group). before_all g.0 (groups_behind pairs g.1 more)) (group_at pairs m more)
+groups_behind pairs zero (m ∷ more) =
+    option_and_then (λ (g : Group). before_all g.0 (groups_behind pairs g.1 more)) (group_at pairs m more)
 
 -- the terminals of meant tokens
 abbrev pub grouped : List Pair → List Meant → Option (List Token)

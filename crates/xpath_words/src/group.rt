@@ -2,7 +2,10 @@
 ghost use Rattle.std.specs.Prelude.{◌≡◌, Some, None, IfOk, drop, encode_utf8_all};
 ghost use Rattle.xpath_words.specs.Named.{type_named};
 ghost use Rattle.xpath_words.specs.Prefixes.{namespace_of};
-ghost use Rattle.xpath_words.specs.Terminals.{alone, any_in_token, axis_at, begins_close, begins_colons, begins_name, begins_open, behind_first, call_or_type, call_token, called, closed, group_at, grouped, instruction_at, lawful, name_at, name_token, number_token, offending, operator_token, sign_at, type_at, variable};
+ghost use Rattle.xpath_words.specs.Terminals.{alone, any_in_token, axis_at, begins_close, begins_colons, begins_name};
+ghost use Rattle.xpath_words.specs.Terminals.{begins_open, behind_first, call_token, called, closed};
+ghost use Rattle.xpath_words.specs.Terminals.{group_at, grouped, instruction_at, lawful, name_at, name_token};
+ghost use Rattle.xpath_words.specs.Terminals.{number_token, offending, operator_token, sign_at, type_at, variable};
 ghost use Rattle.xpath_words.specs.Given.{Gives, Collects};
 
 use crate::axis::AxisName;

@@ -1,9 +1,9 @@
 //! The longest token at the front of a text, again and again.
 ghost use Rattle.std.specs.Prelude.{◌≡◌, Some};
 ghost use Rattle.std.specs.Str.{chars};
-ghost use Rattle.xpath_words.specs.Characters.{begins, behind_first};
 ghost use Rattle.xpath_words.specs.Classes.{test_of};
-ghost use Rattle.xpath_words.specs.Reading.{follows, fraction_of, literal_of, long_before, long_sign, name_of, number_of, short_sign, sign_of, word_of, words_of};
+ghost use Rattle.xpath_words.specs.Reading.{follows, fraction_of, literal_of, long_before, long_sign, name_of};
+ghost use Rattle.xpath_words.specs.Reading.{number_of, short_sign, sign_of, word_of, words_of};
 ghost use Rattle.xpath_words.specs.Given.{Takes, Collects};
 
 use crate::class::Class;
