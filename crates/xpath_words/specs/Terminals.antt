@@ -70,11 +70,11 @@ behind_first (m ∷ more) = more
 
 -- ---- Single tokens
 
--- a variable: none is bound, so a text stands in its place
+-- a variable (XPath 1.0 §3.1): none is bound, so a text stands in its place
 abbrev pub variable : List Meant → Option Group
 variable more = if begins_name more then Some (offending (terminals.Literal []) offences.Variable, 1) else None
 
--- signs; `::` stands behind an axis alone
+-- signs; `@` is the attribute axis (XPath 1.0 §2.5), and `::` stands behind an axis alone
 abbrev pub sign_at : Sign → List Meant → Option Group
 sign_at signs.Open more = alone terminals.Open
 sign_at signs.Close more = alone terminals.Close
@@ -106,7 +106,7 @@ operator_token names.And = lawful (terminals.Operator operators.And)
 operator_token names.Mod = lawful (terminals.Operator operators.Mod)
 operator_token names.Div = offending (terminals.Operator operators.Mod) offences.Div
 
--- a number of at most 53 bits without a fraction
+-- a number (XPath 1.0 §3.5), which must be whole and have at most 53 bits
 abbrev pub number_token : Result Number NumberFault → Token
 number_token (Ok n) = lawful (terminals.Number n)
 number_token (Err faults.Fraction) = offending (terminals.Number number.Nan) offences.Fraction
@@ -130,7 +130,7 @@ name_token pairs prefix local =
     if is_empty prefix then lawful (terminals.Test (tests.Named [] local))
     else named_in_token (namespace_of (encode_utf8_all prefix) pairs) local
 
--- a name before `::`
+-- a name before `::` (XPath 1.0 §2.2)
 abbrev pub axis_group : Option AxisName → Option Group
 axis_group None = None
 axis_group (Some a) = Some (lawful (terminals.Axis a), 1)
@@ -138,12 +138,12 @@ axis_group (Some a) = Some (lawful (terminals.Axis a), 1)
 abbrev pub axis_at : List ℕ → List ℕ → Option Group
 axis_at prefix local = if is_empty prefix then axis_group (axis_named (encode_utf8_all local)) else None
 
--- a function's name and `(`
+-- a function's name and `(` (XPath 1.0 §3.2)
 abbrev pub call_token : Option Function → Token
 call_token (Some f) = lawful (terminals.Call f)
 call_token None = offending (terminals.Call function.Last) offences.UnknownFunction
 
--- a node type with its parentheses; behind the first parenthesis stand these tokens
+-- a node type with its parentheses (XPath 1.0 §2.3, NodeTest); behind the first parenthesis stand these tokens
 abbrev pub closed : NodeTest → ℕ → List Meant → Option Group
 closed test count more = if begins_close more then Some (lawful (terminals.Test test), count) else None
 

@@ -7,7 +7,7 @@ use Rattle.xpath_words.specs.declared.word.Sign.TheVariants as signs
 use Rattle.xpath_words.specs.declared.word.Word.{Word}
 use Rattle.xpath_words.specs.declared.word.Word.TheVariants as words
 
--- how the signs are written
+-- how the signs are written (XPath 1.0 §3.7, ExprToken and Operator)
 abbrev pub sign_text : Sign → List ℕ
 sign_text signs.Open = codes "("
 sign_text signs.Close = codes ")"
@@ -37,12 +37,13 @@ abbrev pub IsNCName : List ℕ → Type 0
 IsNCName [] = ⊥
 IsNCName (c ∷ cs) = (begins_name c ≡ true) × (list_all is_in_name cs ≡ true)
 
--- one or more digits
+-- one or more digits (XPath 1.0 §3.7, Digits)
 abbrev pub AreDigits : List ℕ → Type 0
 AreDigits [] = ⊥
 AreDigits (c ∷ cs) = (is_digit c ≡ true) × (list_all is_digit cs ≡ true)
 
--- These characters spell this token.
+-- These characters spell this token: signs, a Literal, a Number in its three forms (XPath 1.0 §3.7), a QName without and with a
+-- prefix (Namespaces in XML 1.0 §4), or NCName:* (XPath 1.0 §3.7, NameTest).
 pub data Spells : List ℕ → Word → Type 0 where
   sign : (s : Sign) → Spells (sign_text s) (words.Sign s)
   literal : (mark : ℕ) (text : List ℕ) → is_quote mark ≡ true → list_all (differs mark) text ≡ true
@@ -55,7 +56,7 @@ pub data Spells : List ℕ → Word → Type 0 where
   qualified : (prefix local : List ℕ) → IsNCName prefix → IsNCName local → Spells (prefix ++ (58 ∷ local)) (words.Name prefix local)
   any_in : (prefix : List ℕ) → IsNCName prefix → Spells (prefix ++ (58 ∷ (42 ∷ []))) (words.AnyIn prefix)
 
--- No token that stands at the front of xs is longer than s.
+-- No token that stands at the front of xs is longer than s (XPath 1.0 §3.7: the longest token is taken).
 abbrev pub IsLongest : List ℕ → List ℕ → Type 0
 IsLongest s xs = (other rest : List ℕ) (word : Word) → Spells other word → xs ≡ other ++ rest → length other ≤ length s
 
