@@ -1,6 +1,6 @@
 //! The grammar of a signature's elements: each refusal, with the row of its element.
 
-use crate::tests::{expect_refusal, given};
+use crate::tests::{expect_refusal, with_document};
 use sig_base::NoMemory;
 use std::alloc::Global;
 use std::test::Fail;
@@ -64,7 +64,7 @@ fn signed_infos(rt: HostRuntime) -> Result<(), Fail> {
         ),
     ] {
         let text = joined(alloc, &[HEAD, canon, method, REFERENCE, TAIL])?;
-        expect_refusal(&rt, alloc, given(&text), err)?;
+        expect_refusal(&rt, alloc, with_document(&text), err)?;
     }
     Ok(())
 }
@@ -83,7 +83,7 @@ fn references(rt: HostRuntime) -> Result<(), Fail> {
         (REFERENCE, "<KeyInfo/>", "refused Extra 27\n"),
     ] {
         let text = joined(alloc, &[HEAD, CANON, METHOD, reference, value, TAIL])?;
-        expect_refusal(&rt, alloc, given(&text), err)?;
+        expect_refusal(&rt, alloc, with_document(&text), err)?;
     }
     Ok(())
 }
@@ -137,7 +137,7 @@ fn contents_of_references(rt: HostRuntime) -> Result<(), Fail> {
                 TAIL,
             ],
         )?;
-        expect_refusal(&rt, alloc, given(&text), err)?;
+        expect_refusal(&rt, alloc, with_document(&text), err)?;
     }
     Ok(())
 }
@@ -172,7 +172,7 @@ fn signatures(rt: HostRuntime) -> Result<(), Fail> {
                 "</Signature>",
             ],
         )?;
-        expect_refusal(&rt, alloc, given(&text), err)?;
+        expect_refusal(&rt, alloc, with_document(&text), err)?;
     }
     Ok(())
 }
@@ -191,7 +191,12 @@ fn limits(rt: HostRuntime) -> Result<(), Fail> {
     let alloc = rt.alloc();
     let references = repeated(alloc, REFERENCE, 257)?;
     let text = joined(alloc, &[HEAD, CANON, METHOD, &references, TAIL])?;
-    expect_refusal(&rt, alloc, given(&text), "refused TooManyReferences\n")?;
+    expect_refusal(
+        &rt,
+        alloc,
+        with_document(&text),
+        "refused TooManyReferences\n",
+    )?;
     let steps = repeated(
         alloc,
         "<Transform Algorithm=\"http://www.w3.org/2000/09/xmldsig#base64\"/>",
@@ -209,7 +214,12 @@ fn limits(rt: HostRuntime) -> Result<(), Fail> {
             TAIL,
         ],
     )?;
-    expect_refusal(&rt, alloc, given(&text), "refused TooManyTransforms 86\n")?;
+    expect_refusal(
+        &rt,
+        alloc,
+        with_document(&text),
+        "refused TooManyTransforms 86\n",
+    )?;
     let filters = repeated(
         alloc,
         "<XPath xmlns=\"http://www.w3.org/2002/06/xmldsig-filter2\" Filter=\"union\"/>",
@@ -227,6 +237,11 @@ fn limits(rt: HostRuntime) -> Result<(), Fail> {
             TAIL,
         ],
     )?;
-    expect_refusal(&rt, alloc, given(&text), "refused TooManyFilters 90\n")?;
+    expect_refusal(
+        &rt,
+        alloc,
+        with_document(&text),
+        "refused TooManyFilters 90\n",
+    )?;
     Ok(())
 }

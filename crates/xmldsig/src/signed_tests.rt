@@ -1,6 +1,6 @@
 //! Signatures that another implementation made or confirmed.
 
-use crate::tests::{Given, expect_refusal, expect_report, given};
+use crate::tests::{Given, expect_refusal, expect_report, with_document};
 use sig_base::NoMemory;
 use std::alloc::Global;
 use std::test::Fail;
@@ -151,7 +151,12 @@ fn methods(rt: HostRuntime) -> Result<(), Fail> {
     ] {
         let references = reference(alloc, "#obj", digest, digest_value)?;
         let text = signature(alloc, C10, method, "", &references, value, OBJECT)?;
-        expect_report(&rt, alloc, given(&text), "valid\nreference 1 octets 74\n")?;
+        expect_report(
+            &rt,
+            alloc,
+            with_document(&text),
+            "valid\nreference 1 octets 74\n",
+        )?;
     }
     Ok(())
 }
@@ -199,7 +204,7 @@ fn lengths(rt: HostRuntime) -> Result<(), Fail> {
         ),
     ] {
         let text = signature(alloc, C10, method, length, &references, value, OBJECT)?;
-        expect_report(&rt, alloc, given(&text), out)?;
+        expect_report(&rt, alloc, with_document(&text), out)?;
     }
     Ok(())
 }
@@ -238,7 +243,7 @@ fn contents(rt: HostRuntime) -> Result<(), Fail> {
         ),
     ] {
         let text = enveloping(alloc, canonicalization, digest, value, content)?;
-        expect_report(&rt, alloc, given(&text), out)?;
+        expect_report(&rt, alloc, with_document(&text), out)?;
     }
     Ok(())
 }
@@ -271,7 +276,7 @@ fn two_references(rt: HostRuntime) -> Result<(), Fail> {
         let references = joined(alloc, &[&one, &two])?;
         let objects = joined(alloc, &[OBJECT, "<Object Id=\"two\">Two</Object>"])?;
         let text = signature(alloc, C10, SHA256, "", &references, value, &objects)?;
-        expect_report(&rt, alloc, given(&text), out)?;
+        expect_report(&rt, alloc, with_document(&text), out)?;
     }
     Ok(())
 }
@@ -297,7 +302,7 @@ fn references_that_are_refused(rt: HostRuntime) -> Result<(), Fail> {
     ] {
         let references = reference(alloc, uri, DIGEST, HELLO)?;
         let text = signature(alloc, C10, SHA256, "", &references, value, rest)?;
-        expect_refusal(&rt, alloc, given(&text), err)?;
+        expect_refusal(&rt, alloc, with_document(&text), err)?;
     }
     Ok(())
 }
@@ -314,9 +319,9 @@ fn names_of_keys(rt: HostRuntime) -> Result<(), Fail> {
     let text = signature(alloc, C10, SHA256, "", &references, value, &rest)?;
     let given_keys = Given {
         keys,
-        ..given(&text)
+        ..with_document(&text)
     };
     expect_report(&rt, alloc, given_keys, "valid\nreference 1 octets 74\n")?;
-    expect_refusal(&rt, alloc, given(&text), "refused UnknownKey\n")?;
+    expect_refusal(&rt, alloc, with_document(&text), "refused UnknownKey\n")?;
     Ok(())
 }

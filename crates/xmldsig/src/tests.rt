@@ -27,7 +27,7 @@ pub(crate) struct Given<'g> {
 }
 
 /// A document and the key file of the examples.
-pub(crate) fn given<'g>(document: &'g str) -> Given<'g> {
+pub(crate) fn with_document<'g>(document: &'g str) -> Given<'g> {
     Given {
         document: Some(document),
         keys: Some(KEYS),
@@ -155,7 +155,7 @@ fn reports(rt: HostRuntime) -> Result<(), Fail> {
         ("KPGp", "K<!--c-->PGp", "valid\nreference 1 octets 74\n"),
     ] {
         let text = replaced(alloc, piece, by)?;
-        expect_report(&rt, alloc, given(&text), out)?;
+        expect_report(&rt, alloc, with_document(&text), out)?;
     }
     Ok(())
 }
@@ -165,7 +165,7 @@ fn files_that_are_refused(rt: HostRuntime) -> Result<(), Fail> {
     let alloc = rt.alloc();
     let no_document = Given {
         document: None,
-        ..given("")
+        ..with_document("")
     };
     expect(
         &rt,
@@ -178,7 +178,7 @@ fn files_that_are_refused(rt: HostRuntime) -> Result<(), Fail> {
     )?;
     let no_keys = Given {
         keys: None,
-        ..given(DOCUMENT)
+        ..with_document(DOCUMENT)
     };
     expect_refusal(&rt, alloc, no_keys, "refused NoKeys\n")?;
     for (keys, err) in [
@@ -189,7 +189,7 @@ fn files_that_are_refused(rt: HostRuntime) -> Result<(), Fail> {
     ] {
         let keys = Given {
             keys: Some(keys),
-            ..given(DOCUMENT)
+            ..with_document(DOCUMENT)
         };
         expect_refusal(&rt, alloc, keys, err)?;
     }
@@ -201,12 +201,12 @@ fn faults(rt: HostRuntime) -> Result<(), Fail> {
     let alloc = rt.alloc();
     let no_command = Given {
         command: "check",
-        ..given(DOCUMENT)
+        ..with_document(DOCUMENT)
     };
     expect(&rt, alloc, no_command, Status::Usage, "", USAGE, 0)?;
     let folder_fails = Given {
         folder_fails: true,
-        ..given(DOCUMENT)
+        ..with_document(DOCUMENT)
     };
     expect(
         &rt,
@@ -219,7 +219,7 @@ fn faults(rt: HostRuntime) -> Result<(), Fail> {
     )?;
     let out_fails = Given {
         out_fails: true,
-        ..given(DOCUMENT)
+        ..with_document(DOCUMENT)
     };
     expect(
         &rt,
@@ -247,7 +247,7 @@ fn documents_that_are_refused(rt: HostRuntime) -> Result<(), Fail> {
         ("<a xmlns='a'/>", "refused Namespaces\n"),
         ("<Signature/>", "refused NoSignature\n"),
     ] {
-        expect_refusal(&rt, rt.alloc(), given(text), err)?;
+        expect_refusal(&rt, rt.alloc(), with_document(text), err)?;
     }
     Ok(())
 }
