@@ -6,6 +6,8 @@
 
 mod refusal;
 mod report;
+#[cfg(test)]
+mod tests;
 mod validation;
 
 pub use refusal::{RefRefusal, ValidateRefusal};
