@@ -1,0 +1,10 @@
+pub mod Tools
+pub mod Flags
+pub mod Levels
+pub mod Complete
+pub mod Sound
+pub mod Counted
+pub mod Lawfulness
+pub mod Inversions
+pub mod Arities
+pub mod Outcomes
