@@ -164,7 +164,7 @@ xpath_step_fits rows x =
 
 filter_fits : (rows : List RowOf) (y : ℕ) → IsElement rows y → IfOk (filter_at rows y) (FilterFits rows)
 unfolding filter_at
-filter_fits rows y element = 
+filter_fits rows y element =
     in_any_case (FilterFits rows) (or_refusal (BadFilter y) (filter_kind_in (attribute rows y (codes "Filter")))) _ (λ kind. in_any_case (FilterFits rows) (simple_text rows y) _ (λ text. element))
 
 filters_step_fits : (rows : List RowOf) (x : ℕ) → IfOk (filters_step rows x) (StepFits rows)

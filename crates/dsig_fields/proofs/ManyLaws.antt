@@ -1,12 +1,13 @@
 -- Elements of one name that stand side by side.
 use Rattle.std.proofs.Common.{◌≡◌, ℕ, ◌<◌, ◌≤◌, ◌-◌, ◌+◌, ◌==◌, Bool, true, false, List, [], ◌∷◌, ◌++◌, length, refl, sym, ap, ◌∙◌, append_assoc, append-nil}
 use Rattle.std.specs.Prelude.{Option, Some, None, Result, Ok, Err, if◌then◌else◌}
+use Rattle.std.specs.Option.{is_some}
 use Rattle.xml_doc.specs.Rows.{RowOf}
 use Rattle.dsig_fields.specs.Cursor.{with_front}
 use Rattle.dsig_fields.specs.Reading.{◌>>=◌, passed, optional, many, behind_all, Refuses}
 use Rattle.dsig_fields.specs.declared.names.ElementName.{ElementName}
 use Rattle.dsig_fields.specs.declared.refusal.FieldRefusal.{FieldRefusal}
-use Rattle.dsig_fields.proofs.NextLaws.{by_cases}
+use Rattle.dsig_fields.proofs.NextLaws.{by_cases, optional_shorter}
 use Rattle.dsig_fields.proofs.Refusals.{bind_refused, refused_as}
 
 -- what comes behind the first try to read one
@@ -64,3 +65,18 @@ pub behind_all_is : (rows : List RowOf) (name : ElementName) (xs : List ℕ) →
 unfolding behind_all optional passed
 behind_all_is rows name [] = refl
 behind_all_is rows name (y ∷ rest) = by_cases rows name y (λ e n. rw (e, n, e, n) refl) (λ e n. rw (e, n, e, n) refl) (λ e p. rw (e, p) (behind_all_is rows name rest)) (λ e p. rw (e, p) refl)
+
+pub behind_refused : (rows : List RowOf) (name : ElementName) (refusal : FieldRefusal) (xs : List ℕ) → Refuses refusal (optional rows name xs) → Refuses refusal (behind_all rows name xs)
+behind_refused rows name refusal xs r = rw (behind_all_is rows name xs) (bind_refused refusal (optional rows name xs) (behind rows name) r)
+
+pub one_passed : (rows : List RowOf) (name : ElementName) (xs left : List ℕ) (one : Option ℕ) → is_some one ≡ true → optional rows name xs ≡ Ok (one, left) → behind_all rows name left ≡ behind_all rows name xs
+one_passed rows name xs left (Some y) some o = rw (behind_all_is rows name xs, o) refl
+one_passed rows name xs left None some o = absurd (cc some)
+
+pub none_passed : (rows : List RowOf) (name : ElementName) (xs left : List ℕ) (one : Option ℕ) → is_some one ≡ false → optional rows name xs ≡ Ok (one, left) → behind_all rows name xs ≡ Ok left
+none_passed rows name xs left (Some y) none o = absurd (cc none)
+none_passed rows name xs left None none o = rw (behind_all_is rows name xs, o) refl
+
+pub one_less : (rows : List RowOf) (name : ElementName) (xs left : List ℕ) (one : Option ℕ) → is_some one ≡ true → optional rows name xs ≡ Ok (one, left) → length left < length xs
+one_less rows name xs left (Some y) some o = optional_shorter rows name xs left y o
+one_less rows name xs left None some o = absurd (cc some)

@@ -38,7 +38,7 @@ abbrev pub name_at : List RowOf → ℕ → Result (Option (List ℕ)) FieldRefu
 name_at rows y = if is_named rows element.KeyName y then (do
   text ← simple_text rows y
   Ok (Some (chars text)))
-  else Ok None
+    else Ok None
 
 -- the first of the names, those that were read before among them
 abbrev pub first_behind : Option (List ℕ) → Result (List (List ℕ)) FieldRefusal → Result (Option (List ℕ)) FieldRefusal

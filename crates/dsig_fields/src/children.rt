@@ -137,10 +137,14 @@ impl<'d> Children<'d> {
     }
 
     /// Goes past any number of elements of this name, whatever stands in them.
-    pub(crate) fn behind_all(&mut self, doc: &Doc<'_>, name: ElementName) -> Result<(), FieldRefusal>
+    pub(crate) fn behind_all(
+        &mut self,
+        doc: &Doc<'_>,
+        name: ElementName,
+    ) -> Result<(), FieldRefusal>
         ensures { Leaves result self.new (spec.behind_all doc.now name self.old) }
     {
-        while let Some(_y) = self.optional(doc, name)? {}
+        while self.optional(doc, name)?.is_some() {}
         Ok(())
     }
 

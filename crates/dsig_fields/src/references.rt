@@ -92,11 +92,7 @@ impl Repeated for Reference {
 
 /// SignedInfo (XML Signature 1.1 §4.4).
 #[tactic(auto, unfolding(crate::specs::Fields::info_fields))]
-pub(crate) fn info_fields(
-    alloc: Global,
-    doc: &Doc<'_>,
-    x: u32,
-) -> Result<InfoFields, FieldRefusal>
+pub(crate) fn info_fields(alloc: Global, doc: &Doc<'_>, x: u32) -> Result<InfoFields, FieldRefusal>
     requires { x < length doc.now }
     ensures { Gives (λ i. i) result (spec.info_fields doc.now x) }
 {

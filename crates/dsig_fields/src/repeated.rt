@@ -11,7 +11,7 @@ use sig_base::Members;
 use std::alloc::Global;
 use xml_doc::Doc;
 
-/// What an element of a kind says of which one or more stand side by side.
+/// What is read of an element of which one or more stand side by side.
 pub(crate) trait Repeated: Drop {
     ghost use Rattle.std.specs.Prelude.{ℕ, List, Result};
     ghost use Rattle.xml_doc.specs.Rows.{RowOf};
