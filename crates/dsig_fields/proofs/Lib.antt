@@ -8,3 +8,4 @@ pub mod PrefixLaws
 pub mod Refusals
 pub mod SignatureLaws
 pub mod SimpleLaws
+pub mod Worked
