@@ -28,8 +28,8 @@ pub fn read_fields(alloc: Global, doc: &Doc<'_>, signature: u32) -> Result<Field
     let info = info_fields(alloc, doc, signed_info)?;
     let value_row = children.required(doc, ElementName::SignatureValue)?;
     let value = simple_octets(alloc, doc, value_row)?;
-    let third = children.optional(doc, ElementName::KeyInfo)?;
-    let key_name = key_info_if(alloc, doc, third)?;
+    let key_info_row = children.optional(doc, ElementName::KeyInfo)?;
+    let key_name = key_info_if(alloc, doc, key_info_row)?;
     children.behind_all(doc, ElementName::Object)?;
     children.at_end(doc)?;
     Ok(Fields {

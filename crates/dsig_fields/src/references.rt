@@ -45,10 +45,10 @@ fn reference(alloc: Global, doc: &Doc<'_>, x: u32) -> Result<Reference, FieldRef
 {
     let uri = Text::from_str(alloc, uri(doc, x)?)?;
     let mut children = Children::of(doc, x);
-    let before = children.optional(doc, ElementName::Transforms)?;
-    let steps = transforms_if(alloc, doc, before)?;
-    let method = children.required(doc, ElementName::DigestMethod)?;
-    let digest = digest_method(doc, method)?;
+    let transforms_row = children.optional(doc, ElementName::Transforms)?;
+    let steps = transforms_if(alloc, doc, transforms_row)?;
+    let method_row = children.required(doc, ElementName::DigestMethod)?;
+    let digest = digest_method(doc, method_row)?;
     let digest_row = children.required(doc, ElementName::DigestValue)?;
     let expected = simple_octets(alloc, doc, digest_row)?;
     children.at_end(doc)?;
@@ -97,10 +97,10 @@ pub(crate) fn info_fields(alloc: Global, doc: &Doc<'_>, x: u32) -> Result<InfoFi
     ensures { Gives (λ i. i) result (spec.info_fields doc.now x) }
 {
     let mut children = Children::of(doc, x);
-    let first = children.required(doc, ElementName::CanonicalizationMethod)?;
-    let canonicalization = canonicalization_method(alloc, doc, first)?;
-    let second = children.required(doc, ElementName::SignatureMethod)?;
-    let authentication = signature_method(alloc, doc, second)?;
+    let canon_row = children.required(doc, ElementName::CanonicalizationMethod)?;
+    let canonicalization = canonicalization_method(alloc, doc, canon_row)?;
+    let mac_row = children.required(doc, ElementName::SignatureMethod)?;
+    let authentication = signature_method(alloc, doc, mac_row)?;
     let references = one_or_more(alloc, doc, &mut children)?;
     children.at_end(doc)?;
     Ok(InfoFields {

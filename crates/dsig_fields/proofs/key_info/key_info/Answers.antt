@@ -2,7 +2,6 @@ use Rattle.std.proofs.Common.{◌≡◌, sym, ap, ◌∙◌}
 use Rattle.std.proofs.lemmas.Result.{err_from_is_err_and}
 use Rattle.dsig_fields.proofs.NameLaws.{key_info_is, next_refused, name_refused, turn, last}
 use Rattle.dsig_fields.proofs.NextLaws.{any_shorter}
-use Rattle.dsig_fields.proofs.Refusals.{refused_as}
 use Rattle.dsig_fields.proofs.key_info.key_info.Goals as goal
 
 pub loop-first-init : goal.loop-first-init
@@ -11,12 +10,12 @@ loop-first-init c = rw c.of-children.ensures (sym (key_info_is c.args.doc.now c.
 pub returns-in_err-y : goal.returns-in_err-y
 returns-in_err-y c =
     let p = err_from_is_err_and c.from_residual.result c.from_residual.ensures.1 in
-    rw (p.1, p.2) (refused_as _ c.loop-first.invariant (next_refused c.args.doc.now c.loop-first.first _ c.loop-first.children c.in_err-y.ensures.reads))
+    rw (p.1, p.2, ← c.loop-first.invariant) (next_refused c.args.doc.now c.loop-first.first _ c.loop-first.children c.in_err-y.ensures.reads)
 
 pub returns-in_err-name : goal.returns-in_err-name
 returns-in_err-name c =
     let p = err_from_is_err_and c.from_residual-in_err-name.result c.from_residual-in_err-name.ensures.1 in
-    rw (p.1, p.2) (refused_as _ c.loop-first.invariant (name_refused c.args.doc.now c.loop-first.first _ c.loop-first.children _ c.in-Some.y (rw c.in-Some.is at c.in_ok-y.ensures.reads) c.in_err-name.ensures))
+    rw (p.1, p.2, ← c.loop-first.invariant) (name_refused c.args.doc.now c.loop-first.first _ c.loop-first.children _ c.in-Some.y (rw c.in-Some.is at c.in_ok-y.ensures.reads) c.in_err-name.ensures)
 
 pub loop-first-smaller : goal.loop-first-smaller
 loop-first-smaller c = any_shorter c.args.doc.now c.loop-first.children _ _ (rw c.in-Some.is at c.in_ok-y.ensures.reads)
