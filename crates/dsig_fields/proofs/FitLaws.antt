@@ -1,5 +1,5 @@
 -- What holds of the fields that are read: their rows are elements, and they keep within the limits.
-use Rattle.std.proofs.Common.{◌≡◌, ℕ, ◌<◌, ◌≤◌, ◌-◌, ◌+◌, ◌==◌, Bool, true, false, inl, inr, List, [], ◌∷◌, length, refl, sym, ap, ◌∙◌, arith}
+use Rattle.std.proofs.Common.{◌≡◌, ℕ, ◌<◌, ◌≤◌, ◌-◌, ◌==◌, Bool, true, false, inl, inr, List, [], ◌∷◌, length, refl, sym, ◌∙◌, arith}
 use Rattle.std.specs.Prelude.{Option, Some, None, Result, Ok, Err, ◌&&◌, IfOk, bytes_eq, codes, if◌then◌else◌}
 use Rattle.std.specs.List.{All}
 use Rattle.std.proofs.lemmas.Bool.{cases_lt, eqb-false, false≢true}
@@ -8,7 +8,6 @@ use Rattle.std.proofs.lemmas.List.Elements.{All-cons}
 use Rattle.sig_base.specs.Methods.{is_exclusive, canon_method_of, mac_method_of}
 use Rattle.sig_base.specs.declared.method.CanonMethod.{CanonMethod}
 use Rattle.sig_base.specs.declared.method.MacMethod.{MacMethod}
-use Rattle.xml_doc.specs.Kinds.{is_element}
 use Rattle.xml_doc.specs.Rows.{RowOf}
 use Rattle.xml_doc.specs.Shape.{row_at, no_row}
 use Rattle.dsig_fields.specs.Fields.{algorithm, mac_refusal, filter_kind_in, digest_method, key_info_if, inner_prefixes, canonicalization_method, output_length, signature_method, bare_step, canonicalizing_step, xpath_step, filter_at, filters_step, other_step, step_by, transform, transforms, transforms_if, reference, info_fields, fields_of}

@@ -1,6 +1,6 @@
 -- The first number of a range that passes a test.
 use Rattle.std.proofs.Common.{◌≡◌, ℕ, suc, ◌<◌, ◌≤◌, ◌-◌, ◌+◌, Bool, true, false, refl, arith}
-use Rattle.std.specs.Prelude.{Option, Some, None}
+use Rattle.std.specs.Prelude.{Some, None}
 use Rattle.std.specs.List.{find, range_with_len}
 
 pub found_here : (p : ℕ → Bool) (y end : ℕ) → y < end → p y ≡ true → find p (range_with_len y (end - y)) ≡ Some y

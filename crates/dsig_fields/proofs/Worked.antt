@@ -1,21 +1,20 @@
 -- The definitions at small documents, computed. All elements but one are in the namespace of signatures.
 use Rattle.std.proofs.Common.{◌≡◌, ℕ, false, List, [], ◌∷◌, refl}
-use Rattle.std.specs.Prelude.{Option, Some, None, Ok, Err, codes}
+use Rattle.std.specs.Prelude.{Some, None, Ok, Err, codes}
 use Rattle.std.specs.Str.{chars}
 use Rattle.sig_base.specs.declared.method.CanonMethod.TheVariants.{Exc}
-use Rattle.sig_base.specs.declared.method.DigestMethod.TheVariants.{Sha256}
 use Rattle.sig_base.specs.declared.method.MacMethod.TheVariants.{HmacSha1}
 use Rattle.xml_doc.specs.Rows.{RowOf}
 use Rattle.xml_doc.specs.declared.row.Kind.{Kind}
 use Rattle.xml_doc.specs.declared.row.Kind.TheVariants.{Root, Element, Attribute, Text, Comment}
-use Rattle.dsig_fields.specs.Fields.{algorithm, inner_prefixes, canonicalization_method, output_length, signature_method, digest_method, reference, key_names, key_info}
+use Rattle.dsig_fields.specs.Fields.{inner_prefixes, canonicalization_method, signature_method, digest_method, reference, key_names, key_info}
 use Rattle.dsig_fields.specs.Lengths.{length_in, behind_space, number_behind}
 use Rattle.dsig_fields.specs.Names.{signature_namespace}
 use Rattle.dsig_fields.specs.Prefixes.{names_in}
-use Rattle.dsig_fields.specs.Reading.{passed, required, optional, at_end, many, one_or_more, behind_all}
+use Rattle.dsig_fields.specs.Reading.{passed, required, optional, at_end, many, one_or_more}
 use Rattle.dsig_fields.specs.Simple.{joined}
 use Rattle.dsig_fields.specs.declared.names.ElementName.TheVariants as element
-use Rattle.dsig_fields.specs.declared.refusal.FieldRefusal.TheVariants.{Missing, Extra, NoAlgorithm, UnknownMethod, BadLength, NoUri, TooManyReferences}
+use Rattle.dsig_fields.specs.declared.refusal.FieldRefusal.TheVariants.{Missing, Extra, NoAlgorithm, UnknownMethod, NoUri, TooManyReferences}
 
 abbrev node : Kind → (parent last : ℕ) (local_name uri value : List ℕ) → RowOf
 node kind parent last local_name uri value = record { kind = kind; parent = parent; last = last; prefix_text = []; local_name = local_name; uri = uri; value = value; tag_from = 0; body_from = 0; body_until = 0; empty_tag = false }

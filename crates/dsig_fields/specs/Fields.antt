@@ -1,6 +1,6 @@
 -- The grammar of a signature's elements, one definition for each element: XML Signature 1.1, section 4. The steps of each are its
 -- attributes, then its children in order.
-use Rattle.std.specs.Prelude.{◌==◌, ℕ, Bool, false, List, [], ◌∷◌, Option, Some, None, Result, Ok, Err, if◌then◌else◌, codes, bytes_eq}
+use Rattle.std.specs.Prelude.{ℕ, Bool, false, List, [], ◌∷◌, Option, Some, None, Result, Ok, Err, if◌then◌else◌, codes, bytes_eq}
 use Rattle.std.specs.List.{list_any}
 use Rattle.std.specs.Str.{chars}
 use Rattle.sig_base.specs.Methods.{canon_method_of, digest_method_of, mac_method_of, is_exclusive}

@@ -1,6 +1,6 @@
 -- What holds of the fields that are read from a document, beyond what they say: each row that they name is an element of it, and
 -- they keep within the limits.
-use Rattle.std.specs.Prelude.{◌≡◌, ℕ, ◌<◌, ◌≤◌, Bool, true, false, List, [], length, Option, Some}
+use Rattle.std.specs.Prelude.{◌≡◌, ℕ, ◌<◌, ◌≤◌, true, false, List, [], length, Some}
 use Rattle.std.specs.List.{All}
 use Rattle.sig_base.specs.Methods.{is_exclusive}
 use Rattle.sig_base.specs.declared.method.CanonMethod.{CanonMethod}

@@ -1,5 +1,5 @@
 -- The PrefixList of an InclusiveNamespaces element: Exclusive XML Canonicalization 1.0, section 3.
-use Rattle.std.specs.Prelude.{ℕ, nat_lt, List, [], ◌∷◌, length, map, filter, Option, Some, None}
+use Rattle.std.specs.Prelude.{ℕ, nat_lt, List, [], length, map, filter, Option, Some, None}
 use Rattle.std.specs.Str.{chars}
 use Rattle.std.specs.List.{slice_split}
 use Rattle.dsig_base64.specs.Loose.{is_space}

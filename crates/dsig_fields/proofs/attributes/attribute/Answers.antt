@@ -1,5 +1,5 @@
-use Rattle.std.proofs.Common.{◌≡◌, sym, ap, ◌∙◌, ℕ, List}
-use Rattle.std.specs.Prelude.{Option, Some, option_map}
+use Rattle.std.proofs.Common.{sym, ap, ◌∙◌}
+use Rattle.std.specs.Prelude.{Some, option_map}
 use Rattle.std.specs.List.{find}
 use Rattle.xml_doc.specs.Shape.{row_at}
 use Rattle.dsig_fields.specs.Reading.{is_attribute_named}

@@ -1,4 +1,4 @@
-use Rattle.std.proofs.Common.{◌≡◌, sym, ap, ◌∙◌}
+use Rattle.std.proofs.Common.{sym, ◌∙◌}
 use Rattle.std.proofs.lemmas.Result.{err_from_is_err_and}
 use Rattle.dsig_fields.proofs.NameLaws.{key_info_is, next_refused, name_refused, turn, last}
 use Rattle.dsig_fields.proofs.NextLaws.{any_shorter}

@@ -1,4 +1,3 @@
-use Rattle.std.proofs.Common.{◌∙◌, ap, ◌++◌, ◌∷◌, [], List}
 use Rattle.std.proofs.lemmas.Result.{err_from_is_err_and}
 use Rattle.dsig_fields.specs.Reading.{one_or_more}
 use Rattle.dsig_fields.proofs.repeated.one_or_more.Goals as goal
