@@ -1,0 +1,6 @@
+mod Lists
+mod OutcomeLaws
+mod Pointers
+mod ProgressLaws
+mod SignatureLaws
+mod ValidLaws

@@ -1,4 +1,6 @@
 pub mod Targets
 pub mod Views
 pub mod Outcome
+pub mod Progress
+pub mod Signature
 pub mod Laws

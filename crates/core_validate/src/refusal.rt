@@ -1,6 +1,6 @@
 //! Why a validation comes to no report.
 
-use dsig_fields::FieldRefusal;
+use dsig_fields::{FieldRefusal, KeyChoice};
 use sig_base::NoMemory;
 
 /// Why a Reference has no view.
@@ -44,5 +44,33 @@ impl From<NoMemory> for ValidateRefusal {
 
     fn from(_: NoMemory) -> ValidateRefusal {
         ValidateRefusal::Memory
+    }
+}
+
+impl From<FieldRefusal> for ValidateRefusal {
+    ghost use Rattle.std.specs.Prelude.{◌≡◌};
+    ghost use Rattle.core_validate.specs.Signature.{field_cause};
+
+    ghost from_gives = { λ cause refusal. refusal ≡ field_cause cause };
+
+    fn from(cause: FieldRefusal) -> ValidateRefusal {
+        match cause {
+            FieldRefusal::Memory => ValidateRefusal::Memory,
+            _ => ValidateRefusal::Fields(cause),
+        }
+    }
+}
+
+impl From<KeyChoice> for ValidateRefusal {
+    ghost use Rattle.std.specs.Prelude.{◌≡◌};
+    ghost use Rattle.core_validate.specs.Outcome.{choice_refusal};
+
+    ghost from_gives = { λ choice refusal. refusal ≡ choice_refusal choice };
+
+    fn from(choice: KeyChoice) -> ValidateRefusal {
+        match choice {
+            KeyChoice::NoKey => ValidateRefusal::NoKey,
+            KeyChoice::UnknownKey => ValidateRefusal::UnknownKey,
+        }
     }
 }
