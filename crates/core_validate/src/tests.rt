@@ -30,28 +30,31 @@ fn is_within(ranges: &[(u32, u32)], row: u32) -> bool {
     false
 }
 
-impl Rows {
-    fn has(self, doc: &Doc<'_>, row: u32) -> bool {
-        match self {
-            Rows::All => true,
-            Rows::Element => match doc.element_by_id("k") {
-                IdAnswer::One(element) => element <= row && row <= doc.last(element),
-                _ => false,
-            },
-            Rows::Ranges(ranges) => is_within(ranges, row),
-        }
-    }
-}
-
-/// The set of these rows, put in one by one.
-fn set_of<'d>(alloc: Global, doc: &'d Doc<'d>, rows: Rows) -> Result<NodeSet<'d>, NoMemory> {
+/// The rows of these ranges, put in one by one.
+fn set_of_ranges<'d>(
+    alloc: Global,
+    doc: &'d Doc<'d>,
+    ranges: &[(u32, u32)],
+) -> Result<NodeSet<'d>, NoMemory> {
     let mut set = NodeSet::empty(alloc, doc)?;
     for row in 0..doc.rows() {
-        if rows.has(doc, row) {
+        if is_within(ranges, row) {
             set.insert(row);
         }
     }
     Ok(set)
+}
+
+/// The set of these rows.
+fn set_of<'d>(alloc: Global, doc: &'d Doc<'d>, rows: Rows) -> Result<NodeSet<'d>, NoMemory> {
+    match rows {
+        Rows::All => NodeSet::all(alloc, doc),
+        Rows::Element => match doc.element_by_id("k") {
+            IdAnswer::One(element) if element < doc.rows() => NodeSet::subtree(alloc, doc, element),
+            _ => NodeSet::empty(alloc, doc),
+        },
+        Rows::Ranges(ranges) => set_of_ranges(alloc, doc, ranges),
+    }
 }
 
 /// A PrefixList of one name, or none where it is empty.
