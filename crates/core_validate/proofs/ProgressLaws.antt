@@ -109,7 +109,7 @@ behind_all rows p number =
 kept-cons : (keep : Bool) (before : List (List ℕ)) (view : List ℕ) (others : List (List ℕ))
     → before ++ kept_if keep (view ∷ others) ≡ (before ++ kept_if keep (view ∷ [])) ++ kept_if keep others
 kept-cons true before view others = sym (append_assoc before (view ∷ []) others)
-kept-cons false before view others = sym (append-nil (before ++ []) ∙ refl)
+kept-cons false before view others = sym (append-nil (before ++ []))
 
 differing-cons : (before : List ℕ) (number : ℕ) (reference : Reference) (rest : List Reference) (view : List ℕ) (others : List (List ℕ))
     → before ++ differing number (reference ∷ rest) (view ∷ others)

@@ -10,28 +10,15 @@ ghost use Rattle.core_validate.specs.Signature.{value_stands};
 
 use crate::canonical::{OCTET_LIMIT, canonical_length, canonical_mac};
 use crate::refusal::ValidateRefusal;
-use digests_hmac::hmac_matches;
+use digests_hmac::{hmac_matches, output_bits};
 use dsig_fields::Fields;
 use node_sets::NodeSet;
 use sig_base::MacMethod;
 use std::alloc::Global;
 use xml_doc::Doc;
 
-/// The fewest bits that an HMACOutputLength may name (§4.4.2).
+/// The fewest bits that an HMACOutputLength may name (§4.4.2). Half of the shortest output is as many.
 const FEWEST_BITS: u32 = 80;
-
-/// The bits of an HMAC that isn't truncated.
-fn output_bits(mac: MacMethod) -> u32
-    ensures { result ≡ 8 * digest_size (hash_of mac) }
-{
-    match mac {
-        MacMethod::HmacSha1 => 160,
-        MacMethod::HmacSha224 => 224,
-        MacMethod::HmacSha256 => 256,
-        MacMethod::HmacSha384 => 384,
-        MacMethod::HmacSha512 => 512,
-    }
-}
 
 /// The bits that the signature value has: those of the HMACOutputLength, else all.
 pub(crate) fn value_bits(mac: MacMethod, bits: Option<u32>) -> u32
@@ -50,8 +37,8 @@ pub(crate) fn is_long_enough(mac: MacMethod, bits: u32) -> bool
     FEWEST_BITS <= bits && output_bits(mac) / 2 <= bits
 }
 
-/// Whether the signature value is the HMAC over the canonical SignedInfo, or those of its first bits that the fields name.
-/// A canonical SignedInfo above the limit is refused.
+/// Whether the signature value is the HMAC over the canonical SignedInfo, cut to the bits that the fields name. A canonical
+/// SignedInfo above the limit is refused.
 pub(crate) fn value_stands(
     alloc: Global,
     doc: &Doc<'_>,

@@ -62,7 +62,7 @@ fn bearer(doc: &Doc<'_>, id: &str) -> Result<u32, RefRefusal>
     }
 }
 
-/// The element to which the URI points.
+/// The element that bears the ID that the URI names. `NoSuchId` comes where none does, and where the URI names no ID.
 pub(crate) fn select(doc: &Doc<'_>, uri: &Text) -> Result<u32, RefRefusal>
     ensures element { result ≡ pointed (spec.target_id uri.now) doc.now }
     ensures within { IfOk result (λ e. e < length doc.now) }

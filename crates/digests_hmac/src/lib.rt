@@ -10,7 +10,7 @@ mod value;
 
 pub use hasher::{DigestSink, digest};
 pub use key_table::{Key, KeyFault, KeyTable};
-pub use mac::{MacSink, hmac, hmac_matches};
+pub use mac::{MacSink, hmac, hmac_matches, output_bits};
 pub use value::Digest;
 
 #[cfg(test)]

@@ -32,6 +32,19 @@ fn digest_method(method: MacMethod) -> DigestMethod
     }
 }
 
+/// The bits of an HMAC that isn't truncated (RFC 2104 §2).
+pub fn output_bits(method: MacMethod) -> u32
+    ensures { result ≡ 8 * digest_size (hash_of method) }
+{
+    match method {
+        MacMethod::HmacSha1 => 160,
+        MacMethod::HmacSha224 => 224,
+        MacMethod::HmacSha256 => 256,
+        MacMethod::HmacSha384 => 384,
+        MacMethod::HmacSha512 => 512,
+    }
+}
+
 /// The octets of a block.
 fn block_size(method: DigestMethod) -> usize
     ensures size { result ≡ spec.block_size method }

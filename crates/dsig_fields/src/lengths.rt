@@ -6,6 +6,7 @@ ghost use Rattle.digests_hmac.specs.Hash.{digest_size, hash_of};
 ghost use Rattle.dsig_fields.specs.Lengths as spec;
 
 use crate::space::is_space;
+use digests_hmac::output_bits;
 use sig_base::MacMethod;
 
 /// More bits than any HMAC has. A number stops growing here, so that a text of any length is read.
@@ -31,19 +32,6 @@ fn may_keep(mac: MacMethod, bits: u32) -> bool
     ensures { result ≡ spec.may_keep mac bits }
 {
     bits % 8 == 0 && bits <= output_bits(mac)
-}
-
-/// The bits of an HMAC (RFC 2104 §2).
-fn output_bits(mac: MacMethod) -> u32
-    ensures { result ≡ 8 * digest_size (hash_of mac) }
-{
-    match mac {
-        MacMethod::HmacSha1 => 160,
-        MacMethod::HmacSha224 => 224,
-        MacMethod::HmacSha256 => 256,
-        MacMethod::HmacSha384 => 384,
-        MacMethod::HmacSha512 => 512,
-    }
 }
 
 /// The number that a text of one or more decimal digits spells, or 513 where it is more.
