@@ -30,6 +30,13 @@ fn is_within(ranges: &[(u32, u32)], row: u32) -> bool {
     false
 }
 
+/// Puts a row of the set's document into the set.
+fn insert(set: &mut NodeSet<'_>, row: u32) {
+    if row < set.lend().rows() {
+        set.insert(row);
+    }
+}
+
 /// The rows of these ranges, put in one by one.
 fn set_of_ranges<'d>(
     alloc: Global,
@@ -39,7 +46,7 @@ fn set_of_ranges<'d>(
     let mut set = NodeSet::empty(alloc, doc)?;
     for row in 0..doc.rows() {
         if is_within(ranges, row) {
-            set.insert(row);
+            insert(&mut set, row);
         }
     }
     Ok(set)
