@@ -21,7 +21,7 @@ def filled(head, piece, tail, size):
 
 def documents(size):
     """Contents of about that many bytes, by name. Each is its own canonical form."""
-    yield "small elements", filled("<r>", "<e>some text</e>", "</r>", size)
+    yield "small elements", filled("<r>", "<e>some more text</e>", "</r>", size)
     yield "depth 500", "<a>" * 500 + "x" * (size - 3500) + "</a>" * 500
     yield "long texts", filled("<r>", "<p>" + "text " * 2000 + "</p>", "</r>", size)
     declared = "".join(f' xmlns:n{i}="urn:example:{i}"' for i in range(8))
