@@ -1,7 +1,7 @@
 -- Rows that write nothing, since neither they nor their namespace rows and attribute rows are in the set.
 use Rattle.std.proofs.Common.{◌≡◌, ℕ, ◌+◌, ◌-◌, ◌<◌, ◌≤◌, Bool, true, false, not, if◌then◌else◌, cond, ◌&&◌, ◌==◌, List, [], ◌∷◌, ◌++◌, length, zero, suc, refl, sym, ap, ◌∙◌, arith, ◌⊎◌, inl, inr}
 use Rattle.std.specs.List.{flat_map, filter, range_with_len}
-use Rattle.std.proofs.lemmas.Bool.{cases_lt, cases_eq, false≢true, eqb-true}
+use Rattle.std.proofs.lemmas.Bool.{cases_lt, cases_eq, false≢true, eqb-true, and_parts, and_right}
 use Rattle.xml_doc.specs.declared.row.Kind.{Kind}
 use Rattle.xml_doc.specs.declared.row.Kind.TheVariants.{Root, Element, Namespace, Attribute, Text, Comment, Instruction}
 use Rattle.xml_doc.specs.Kinds.{is_namespace, is_attribute, is_field, is_element}
@@ -52,23 +52,15 @@ field_not_element Text e = refl
 field_not_element Comment e = refl
 field_not_element Instruction e = refl
 
-both : (a b : Bool) → (a && b) ≡ true → (a ≡ true) × (b ≡ true)
-both true b e = (refl, e)
-both false b e = absurd (false≢true e)
-
-no_and : (a b : Bool) → b ≡ false → (a && b) ≡ false
-no_and true b e = e
-no_and false b e = refl
-
 module _ (rows : List RowOf) (w : IsWellShaped rows) (set : ℕ → Bool) where
   own_namespace : (x y : ℕ) → IsQuiet rows set x → 1 ≤ y → y < 1 + (length rows - 1) → is_namespace_of rows x y ≡ true → set y ≡ false
   own_namespace x y quiet ge lt passes =
-      let parts = both (is_namespace (row_at rows y).kind) ((row_at rows y).parent == x) passes in
+      let parts = and_parts (is_namespace (row_at rows y).kind) ((row_at rows y).parent == x) passes in
       quiet.fields y (omega arith) (omega arith) (namespace_field _ parts.0) (eqb-true (row_at rows y).parent x parts.1)
 
   own_attribute : (x y : ℕ) → IsQuiet rows set x → 1 ≤ y → y < 1 + (length rows - 1) → is_attribute_of rows x y ≡ true → set y ≡ false
   own_attribute x y quiet ge lt passes =
-      let parts = both (is_attribute (row_at rows y).kind) ((row_at rows y).parent == x) passes in
+      let parts = and_parts (is_attribute (row_at rows y).kind) ((row_at rows y).parent == x) passes in
       quiet.fields y (omega arith) (omega arith) (attribute_field _ parts.0) (eqb-true (row_at rows y).parent x parts.1)
 
   module _ (rule : Rule) (comments : Bool) (x : ℕ) (quiet : IsQuiet rows set x) where
@@ -85,7 +77,7 @@ module _ (rows : List RowOf) (w : IsWellShaped rows) (set : ℕ → Bool) where
 
     none_written : set x ≡ false → written_attributes rows set rule x ≡ filter set (attribute_rows rows x)
     none_written out =
-        let taken : imports_attributes rows set rule x ≡ false = ap (λ t. t && is_element (kind_of rows (parent_of rows x)) && not (set (parent_of rows x))) (no_and (is_inclusive rule) (set x) out) in
+        let taken : imports_attributes rows set rule x ≡ false = ap (λ t. t && is_element (kind_of rows (parent_of rows x)) && not (set (parent_of rows x))) (and_right (is_inclusive rule) (set x) out) in
         ap (λ t. if t then in_order rows (filter set (attribute_rows rows x) ++ imported rows x) else filter set (attribute_rows rows x)) taken
 
     no_attributes : set x ≡ false → attributes_octets rows set rule x ≡ []
@@ -101,7 +93,7 @@ module _ (rows : List RowOf) (w : IsWellShaped rows) (set : ℕ → Bool) where
     no_opening_of Namespace out = refl
     no_opening_of Attribute out = refl
     no_opening_of Text out = rw out refl
-    no_opening_of Comment out = rw (no_and comments (set x) out) refl
+    no_opening_of Comment out = rw (and_right comments (set x) out) refl
     no_opening_of Instruction out = rw out refl
 
     root_kind_of : x ≡ 0 → kind_of rows x ≡ Root

@@ -1,16 +1,13 @@
 -- The range that has all members of a set, as the set grows.
-use Rattle.std.proofs.Common.{◌≡◌, ℕ, ◌+◌, ◌<◌, ◌≤◌, ◌==◌, ◌||◌, Bool, false, List, ap, ◌∙◌, arith, max, min}
-use Rattle.std.proofs.lemmas.Bool.{ne_eqb}
+use Rattle.std.proofs.Common.{◌≡◌, ℕ, ◌+◌, ◌<◌, ◌≤◌, ◌==◌, ◌||◌, Bool, false, List, ◌∙◌, arith, max, min}
+use Rattle.std.proofs.lemmas.Bool.{ne_eqb, or_from}
 use Rattle.node_sets.specs.Members.{has, Spanned}
-
-either_false : (a b : Bool) → a ≡ false → b ≡ false → (a || b) ≡ false
-either_false a b e f = ap (λ t. t || b) e ∙ f
 
 -- the members that were before, and those that pass a test, which hold of no number outside a range
 pub spanned_more : (old new : List Bool) (test : ℕ → Bool) (from until lowest end : ℕ) → Spanned old from until → ((k : ℕ) → k < lowest → test k ≡ false) → ((k : ℕ) → end ≤ k → test k ≡ false) → ((k : ℕ) → has new k ≡ (test k || has old k)) → Spanned new (min from lowest) (max until end)
 spanned_more old new test from until lowest end s low high is = record {
-  below = λ (k : ℕ) h. is k ∙ either_false (test k) (has old k) (low k (omega arith)) (s.below k (omega arith));
-  behind = λ (k : ℕ) h. is k ∙ either_false (test k) (has old k) (high k (omega arith)) (s.behind k (omega arith));
+  below = λ (k : ℕ) h. is k ∙ or_from (test k) (has old k) (low k (omega arith)) (s.below k (omega arith));
+  behind = λ (k : ℕ) h. is k ∙ or_from (test k) (has old k) (high k (omega arith)) (s.behind k (omega arith));
 }
 
 -- one number

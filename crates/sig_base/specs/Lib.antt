@@ -1,3 +1,4 @@
 pub mod Counts
 pub mod Methods
+pub mod Options
 pub mod Puts

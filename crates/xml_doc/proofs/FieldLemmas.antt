@@ -1,7 +1,7 @@
 -- Where the namespace rows and the attribute rows of an element stand.
 use Rattle.std.proofs.Common.{◌≡◌, ℕ, zero, suc, ◌<◌, ◌≤◌, ◌-◌, ◌+◌, ◌&&◌, eqb, Bool, true, false, List, ◌∷◌, ◌++◌, length, refl, ap, sym, ◌∙◌, arith, append-nil, ◌⊎◌, inl, inr}
 use Rattle.std.specs.List.{filter, range_with_len}
-use Rattle.std.proofs.lemmas.Bool.{cases_lt, false≢true, eqb-true, eq-eqb, and_from}
+use Rattle.std.proofs.lemmas.Bool.{cases_lt, false≢true, eqb-true, eq-eqb, and_from, false_from_ne_true}
 use Rattle.xml_doc.proofs.Numbers.{passing-cut, passing_none}
 use Rattle.xml_doc.specs.declared.row.Kind.{Kind}
 use Rattle.xml_doc.specs.declared.row.Kind.TheVariants.{Root, Element, Namespace, Attribute, Text, Comment, Instruction}
@@ -25,7 +25,7 @@ passing_between p n a b l m h before within behind =
     ∙ append-nil (filter p (range_with_len a (b - a)))
     ∙ passing_all p a (b - a) (λ (k : ℕ) ge lt. within k ge (omega arith))
 
-namespace_is : (k : Kind) → is_namespace k ≡ true → k ≡ Namespace
+pub namespace_is : (k : Kind) → is_namespace k ≡ true → k ≡ Namespace
 namespace_is Root e = absurd (false≢true e)
 namespace_is Element e = absurd (false≢true e)
 namespace_is Namespace e = refl
@@ -69,11 +69,6 @@ both : (a : Bool) (m n : ℕ) → (a && eqb m n) ≡ true → (a ≡ true) × (m
 both true m n e = (refl, eqb-true m n e)
 both false m n e = absurd (false≢true e)
 
--- a test that is not true is false
-pub off : (b : Bool) → (b ≡ true → ⊥) → b ≡ false
-off false n = refl
-off true n = absurd (n refl)
-
 module _ (rows : List RowOf) (w : IsWellShaped rows) where
   -- between an element and a field of it stand only fields of it
   field_parent : (i j : ℕ) → i < length rows → is_field (row_at rows i).kind ≡ true → (row_at rows i).parent < j → j < i → (row_at rows j).parent ≡ (row_at rows i).parent
@@ -93,7 +88,7 @@ module _ (rows : List RowOf) (w : IsWellShaped rows) where
       ]
 
   pub no_namespace_behind : (x end : ℕ) → x < length rows → RunEnds rows (is_namespace_of rows x) (x + 1) end → (j : ℕ) → end ≤ j → j < length rows → is_namespace_of rows x j ≡ false
-  no_namespace_behind x end here r j ge lt = off _ (λ (t : is_namespace_of rows x j ≡ true).
+  no_namespace_behind x end here r j ge lt = false_from_ne_true _ (λ (t : is_namespace_of rows x j ≡ true).
       let parts = both (is_namespace (row_at rows j).kind) (row_at rows j).parent x t in
       let kind = namespace_is (row_at rows j).kind parts.0 in
       let reached = r.reached in
@@ -106,7 +101,7 @@ module _ (rows : List RowOf) (w : IsWellShaped rows) where
       ])
 
   pub no_attribute_behind : (x mid end : ℕ) → x < length rows → RunEnds rows (is_namespace_of rows x) (x + 1) mid → RunEnds rows (is_attribute_of rows x) mid end → (j : ℕ) → end ≤ j → j < length rows → is_attribute_of rows x j ≡ false
-  no_attribute_behind x mid end here n r j ge lt = off _ (λ (t : is_attribute_of rows x j ≡ true).
+  no_attribute_behind x mid end here n r j ge lt = false_from_ne_true _ (λ (t : is_attribute_of rows x j ≡ true).
       let parts = both (is_attribute (row_at rows j).kind) (row_at rows j).parent x t in
       let field = field_of_attribute (row_at rows j).kind parts.0 in
       let from = n.reached in
@@ -123,7 +118,7 @@ module _ (rows : List RowOf) (w : IsWellShaped rows) where
       ])
 
   not_of_earlier : (x k : ℕ) → 1 ≤ k → k < x + 1 → k < length rows → (b : Bool) → (b && eqb (row_at rows k).parent x) ≡ false
-  not_of_earlier x k pos le lt b = off _ (λ t. let up = (both b (row_at rows k).parent x t).1 in let before = w.parent_before k pos lt in omega arith)
+  not_of_earlier x k pos le lt b = false_from_ne_true _ (λ t. let up = (both b (row_at rows k).parent x t).1 in let before = w.parent_before k pos lt in omega arith)
 
   -- before an element's namespace rows, which begin right behind it, there is none of them
   pub no_namespace_before : (x k : ℕ) → x < length rows → k < x + 1 → is_namespace_of rows x k ≡ false

@@ -1,9 +1,9 @@
 -- One pass over the attributes of a document, and the elements that bear an ID.
 use Rattle.std.proofs.Common.{◌≡◌, ◌≢◌, ℕ, zero, suc, ◌<◌, ◌≤◌, ◌-◌, ◌+◌, ◌&&◌, ◌||◌, cond, Bool, true, false, Option, Some, None, List, [], ◌∷◌, ◌++◌, length, refl, ap, sym, ◌∙◌, arith, inl, inr, eqb}
 use Rattle.std.specs.List.{filter, list_any, range_with_len}
-use Rattle.std.proofs.lemmas.Bool.{cases_lt, false≢true, eqb-true, eq-eqb, and_from, and_parts}
+use Rattle.std.proofs.lemmas.Bool.{cases_lt, false≢true, eqb-true, eq-eqb, and_from, and_parts, false_from_ne_true, or_right}
 use Rattle.xml_doc.proofs.Numbers.{passing_none, passing-at}
-use Rattle.xml_doc.proofs.FieldLemmas.{inner_no_field, field_of_attribute, off}
+use Rattle.xml_doc.proofs.FieldLemmas.{inner_no_field, field_of_attribute}
 use Rattle.xml_doc.specs.declared.ids.IdAnswer.TheVariants.{One, None as NoElement, Several}
 use Rattle.xml_doc.specs.Fields.{is_attribute_of}
 use Rattle.xml_doc.specs.Ids.{answer_of, bearers, bears, gives_id}
@@ -20,14 +20,10 @@ any-filter p q (x ∷ xs) = go (q x) ∙ ap (λ (t : Bool). (q x && p x) || t) (
     go true = refl
     go false = refl
 
-or_later : (b c : Bool) → c ≡ true → (b || c) ≡ true
-or_later true c e = refl
-or_later false c e = e
-
 any_range : (p : ℕ → Bool) (a n k : ℕ) → a ≤ k → k < a + n → p k ≡ true → list_any p (range_with_len a n) ≡ true
 any_range p a zero k ge lt t = absurd (omega arith)
 any_range p a (suc n) k ge lt t = elim (cases_lt a k) [
-  | inl behind ↦ or_later (p a) _ (any_range p (a + 1) n k (omega arith) (omega arith) t)
+  | inl behind ↦ or_right (p a) _ (any_range p (a + 1) n k (omega arith) (omega arith) t)
   | inr not_behind ↦ let e : a ≡ k = omega arith in ap (λ (b : Bool). b || list_any p (range_with_len (a + 1) n)) (ap p e ∙ t)
 ]
 
@@ -154,14 +150,14 @@ module _ (rows : List RowOf) (w : IsWellShaped rows) (id : List ℕ) where
   ]
 
   pub answer-nobody : SoFar rows id (length rows) None → NoElement ≡ answer_of (bearers rows id)
-  answer-nobody s = sym (ap answer_of (passing_none (bears rows id) 0 (length rows) (λ (e : ℕ) ge lt. off _ (λ (t : bears rows id e ≡ true).
+  answer-nobody s = sym (ap answer_of (passing_none (bears rows id) 0 (length rows) (λ (e : ℕ) ge lt. false_from_ne_true _ (λ (t : bears rows id e ≡ true).
       let f = giver_of e t in
       let parts = and_parts (gives rows id f.place) (eqb (row_at rows f.place).parent e) f.passes in
       false≢true (sym (s f.place f.before) ∙ parts.0)))))
 
   -- an element before `until` that bears the ID is the one
   other_bearer : (k e until : ℕ) → k ≤ length rows → OneBearer rows id k e → ((j : ℕ) → j < length rows → gives rows id j ≡ true → (row_at rows j).parent < until → j < k) → (m : ℕ) → m < until → m ≢ e → bears rows id m ≡ false
-  other_bearer k e until le s before m lt ne = off _ (λ (t : bears rows id m ≡ true).
+  other_bearer k e until le s before m lt ne = false_from_ne_true _ (λ (t : bears rows id m ≡ true).
       let f = giver_of m t in
       let parts = and_parts (gives rows id f.place) (eqb (row_at rows f.place).parent m) f.passes in
       let up = eqb-true (row_at rows f.place).parent m parts.1 in

@@ -8,6 +8,7 @@ use Rattle.std.specs.Prelude.{codes}
 use Rattle.std.specs.Str.{bytes_eq}
 use Rattle.std.proofs.lemmas.Bool.{cases_lt, false≢true, eqb-true, eq-eqb, ltb-true, lt-ltb, leb-true, and_from, and_parts}
 use Rattle.std.proofs.lemmas.Slice.Eq.{bytes_eq-Decides}
+use Rattle.xml_doc.proofs.FieldLemmas.{namespace_is}
 use Rattle.xml_doc.specs.declared.row.Kind.{Kind}
 use Rattle.xml_doc.specs.declared.row.Kind.TheVariants.{Root, Element, Namespace, Attribute, Text, Comment, Instruction}
 use Rattle.xml_doc.specs.Fits.{fields_fit}
@@ -76,15 +77,6 @@ element_is Attribute t = absurd (false≢true t)
 element_is Text t = absurd (false≢true t)
 element_is Comment t = absurd (false≢true t)
 element_is Instruction t = absurd (false≢true t)
-
-namespace_is : (k : Kind) → is_namespace k ≡ true → k ≡ Namespace
-namespace_is Root t = absurd (false≢true t)
-namespace_is Element t = absurd (false≢true t)
-namespace_is Namespace t = refl
-namespace_is Attribute t = absurd (false≢true t)
-namespace_is Text t = absurd (false≢true t)
-namespace_is Comment t = absurd (false≢true t)
-namespace_is Instruction t = absurd (false≢true t)
 
 bytes_same : (xs ys : List ℕ) → bytes_eq xs ys ≡ true → xs ≡ ys
 bytes_same xs ys = (bytes_eq-Decides xs ys).0

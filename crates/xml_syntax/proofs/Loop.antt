@@ -3,14 +3,15 @@ use Rattle.std.proofs.Common.{◌≡◌, ◌≢◌, ℕ, String, Vec, vec_len, z
 use Rattle.std.specs.declared.alloc.Global.{Global}
 use Rattle.std.proofs.lemmas.Bool.{eqb-true, eq-eqb, false≢true}
 use Rattle.std.proofs.lemmas.List.{length-reverse, length-map}
+use Rattle.sig_base.proofs.OptionLemmas.{some_is}
+use Rattle.sig_base.specs.Options.{◌>>=◌}
 use Rattle.xml_syntax.specs.Characters.{Placed}
 use Rattle.xml_syntax.specs.Tree.{Tag, Content, nothing, text, comment, instruction, element, text_before, events}
 use Rattle.xml_syntax.specs.Tree as tree
-use Rattle.xml_syntax.specs.Reading.{◌>>=◌, Item, Words, Comment, Instruction, Empty, Start, End, text_follows, text_of, markup_of, item_of, open_behind, Level, with_item, left_of}
+use Rattle.xml_syntax.specs.Reading.{Item, Words, Comment, Instruction, Empty, Start, End, text_follows, text_of, markup_of, item_of, open_behind, Level, with_item, left_of}
 use Rattle.xml_syntax.specs.declared.fault.SyntaxFault.{SyntaxFault}
 use Rattle.xml_syntax.specs.declared.fault.SyntaxFault.TheVariants.{Encoding, DocType, NotWellFormed, Memory}
 use Rattle.xml_syntax.specs.Seen.{Fails, with_front, left_events, with_text, with_events, item_events, text_events, seen_open}
-use Rattle.xml_syntax.proofs.Runs.{some_is}
 use Rattle.xml_syntax.proofs.ItemLaws.{markup_sound, SpellsMarkup}
 use Rattle.xml_syntax.proofs.Whole.{SpellsLeft, no_level, a_level, left_sound, item_shorter}
 

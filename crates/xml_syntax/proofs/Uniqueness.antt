@@ -6,13 +6,14 @@ use Rattle.std.specs.declared.cmp.Ordering.{Ordering}
 use Rattle.std.specs.Ordering.{nat_cmp}
 use Rattle.std.specs.Cmp.Lexicographic.{slice_cmp, nat_list_eq_equiv}
 use Rattle.std.specs.BTreeSet.{BTreeSet, contains, Updates}
-use Rattle.std.proofs.lemmas.Bool.{false≢true}
+use Rattle.std.proofs.lemmas.Bool.{false≢true, not-false, not-true}
 use Rattle.std.proofs.lemmas.List.{take_more, take-append-drop, map_push, map-append}
 use Rattle.std.proofs.lemmas.Map.Text.{is_eq-slice_cmp}
 use Rattle.xml_syntax.specs.Tree.{Attribute}
 use Rattle.xml_syntax.specs.Grammar.{has_name, are_apart}
 use Rattle.xml_syntax.specs.Seen.{seen_attribute, seen_attributes}
 use Rattle.xml_syntax.specs.declared.event.Attribute.{Attribute as CodeAttribute}
+use Rattle.xml_syntax.proofs.LiteralLaws.{cond_none}
 
 -- the order of the set of names
 abbrev pub by_text : Bor (List ℕ) → Bor (List ℕ) → Ordering
@@ -29,10 +30,6 @@ cond_lacks false b e = (refl, e)
 cond_true : (b : Bool) → cond b true true ≡ true
 cond_true true = refl
 cond_true false = refl
-
-cond_false : (b : Bool) → cond b false false ≡ false
-cond_false true = refl
-cond_false false = refl
 
 cond_swap : (a b c : Bool) → cond a true (cond b true c) ≡ cond b true (cond a true c)
 cond_swap true b c = sym (cond_true b)
@@ -59,7 +56,7 @@ twice (u ∷ vs) ws v e = at (bytes_eq v.name u.name) refl e (twice vs ws v)
   where
     at : (b : Bool) → bytes_eq v.name u.name ≡ b → cond b true (has_name v.name vs) ≡ true → (has_name v.name vs ≡ true → are_apart (vs ++ v ∷ ws) ≡ false) → cond (has_name u.name (vs ++ v ∷ ws)) false (are_apart (vs ++ v ∷ ws)) ≡ false
     at true f g again = rw (has_in u.name vs ws v (nat_list_eq_equiv.symm u.name v.name ∙ f)) refl
-    at false f g again = rw (again g) (cond_false (has_name u.name (vs ++ v ∷ ws)))
+    at false f g again = rw (again g) (cond_none (has_name u.name (vs ++ v ∷ ws)))
 
 -- ---- the turn
 
@@ -73,26 +70,18 @@ all_seen list i item lt is =
     ∙ ap (λ (vs : List CodeAttribute). seen_attributes (take i list) ++ seen_attributes vs) (drop-cons list i item lt)
     ∙ ap (λ (v : CodeAttribute). seen_attributes (take i list) ++ seen_attribute v ∷ seen_attributes (drop (suc i) list)) (sym is)
 
-not_false : (b : Bool) → false ≡ not b → b ≡ true
-not_false true e = refl
-not_false false e = absurd (false≢true e)
-
-not_true : (b : Bool) → true ≡ not b → b ≡ false
-not_true true e = absurd (false≢true (sym e))
-not_true false e = refl
-
 module _ (names more : BTreeSet (Bor (List ℕ))) (key : Bor (List ℕ)) (list : List CodeAttribute) (i : ℕ) (item : CodeAttribute) (lt : i < length list) (is : item ≡ get_or list i item) (key-is : key.now ≡ string_bytes item.name)
     (known : (q : Bor (List ℕ)) → contains by_text names q ≡ has_name q.now (seen_attributes (take i list))) where
   pub name_stands_twice : false ≡ not (contains by_text names key) → are_apart (seen_attributes list) ≡ false
   name_stands_twice e =
       let has : has_name (string_bytes item.name) (seen_attributes (take i list)) ≡ true =
-      ap (λ (w : List ℕ). has_name w (seen_attributes (take i list))) (sym key-is) ∙ sym (known key) ∙ not_false (contains by_text names key) e in
+      ap (λ (w : List ℕ). has_name w (seen_attributes (take i list))) (sym key-is) ∙ sym (known key) ∙ not-false (contains by_text names key) (sym e) in
       ap are_apart (all_seen list i item lt is) ∙ twice (seen_attributes (take i list)) (seen_attributes (drop (suc i) list)) (seen_attribute item) has
 
   pub name_is_new : true ≡ not (contains by_text names key) → are_apart (seen_attributes (take i list)) ≡ true → are_apart (seen_attributes (take (i + 1) list)) ≡ true
   name_is_new e apart =
       let lacks : has_name (string_bytes item.name) (seen_attributes (take i list)) ≡ false =
-      ap (λ (w : List ℕ). has_name w (seen_attributes (take i list))) (sym key-is) ∙ sym (known key) ∙ not_true (contains by_text names key) e in
+      ap (λ (w : List ℕ). has_name w (seen_attributes (take i list))) (sym key-is) ∙ sym (known key) ∙ not-true (contains by_text names key) (sym e) in
       ap are_apart (next_seen list i item lt is) ∙ apart_push (seen_attributes (take i list)) (seen_attribute item) apart lacks
 
   pub name_is_known : Updates by_text names more key true → (q : Bor (List ℕ)) → contains by_text more q ≡ has_name q.now (seen_attributes (take (i + 1) list))

@@ -1,5 +1,7 @@
 -- What is spelled is read.
 use Rattle.std.proofs.Common.{◌≡◌, ◌≢◌, ℕ, suc, ◌+◌, ◌≤◌, max, nat_lt, Bool, true, false, ◌||◌, List, [], ◌∷◌, ◌++◌, Option, Some, None, refl, sym, ap, ◌∙◌, append_assoc, append-nil, arith}
+use Rattle.sig_base.proofs.OptionLemmas.{some_is}
+use Rattle.sig_base.specs.Options.{◌>>=◌}
 use Rattle.xpath_words.specs.declared.operator.BinaryOp.{BinaryOp}
 use Rattle.xpath_words.specs.declared.operator.BinaryOp.TheVariants as op
 use Rattle.xpath_words.specs.declared.function.Function.{Function}
@@ -17,8 +19,8 @@ use Rattle.xpath_syntax.specs.declared.frame.Frame.TheVariants as f
 use Rattle.xpath_syntax.specs.declared.mode.Mode.TheVariants as m
 use Rattle.xpath_syntax.specs.Grammar.{level, operator_of, filtered, step_with, anywhere, itself, parent, Part, Level, Filter, Passing, Leading, Stepping, Located, Spells, binary, tighter, negation, of_filter, of_path, root, literal, number, group, no_arguments, call, first_argument, next_argument, predicate, from_context, from_root, from_anywhere, from_filter, below_filter, further, below, dot, double_dot, child, along, step_predicate, stepped}
 use Rattle.xpath_syntax.specs.Nesting.{limit, levels_of_test, own_levels, nesting}
-use Rattle.xpath_syntax.specs.Reading.{◌>>=◌, wanted, binds, completed, reduced, State, closed, bracket_closed, separated, with_operator, behind, step_begun, begins_step, whole, levels, deepens, run, expression_of}
-use Rattle.xpath_syntax.proofs.Tools.{some_is, le_true, le_false}
+use Rattle.xpath_syntax.specs.Reading.{wanted, binds, completed, reduced, State, closed, bracket_closed, separated, with_operator, behind, step_begun, begins_step, whole, levels, deepens, run, expression_of}
+use Rattle.xpath_syntax.proofs.Tools.{le_true, le_false, bracketed}
 use Rattle.xpath_syntax.proofs.Flags.{noted, two, three, four}
 
 -- how tightly the next terminal takes an operand: 9 where it goes on with a path or a filter
@@ -217,9 +219,6 @@ argument_calm (t.Close ∷ more) h = omega arith
 argument_calm (t.Comma ∷ more) h = omega arith
 argument_calm (_ ∷ more) h = absurd cc
 
-bracketed : (a c rest : List Terminal) → (a ++ (t.OpenBracket ∷ (c ++ (t.CloseBracket ∷ [])))) ++ rest ≡ a ++ (t.OpenBracket ∷ (c ++ (t.CloseBracket ∷ rest)))
-bracketed a c rest = simp append_assoc
-
 on : (k : List Frame) (deep : Bool) (a b rest : List Terminal) → run k m.Wanted deep ((a ++ b) ++ rest) ≡ run k m.Wanted deep (a ++ (b ++ rest))
 on k deep a b rest = ap (λ (u : List Terminal). run k m.Wanted deep u) (append_assoc a b rest)
 
@@ -363,16 +362,16 @@ complete part s rest k deep (stepped a p ss d x ps inner) h =
     complete (Stepping p ss d x ps) a rest k deep inner tt
     ∙ step_ends k (record { start = p; steps = ss; axis = d; test = x; predicates = ps }) (behind_frames (Stepping p ss d x ps) a k deep inner) rest h
 
-is_so : Expr → Bool → Option (Expr × Bool)
-is_so x deep = Some (x, deep)
+abbrev pub read_as : Expr → Bool → Option (Expr × Bool)
+read_as x deep = Some (x, deep)
 
 pub expression_complete : (s : List Terminal) (x : Expr) (h : Spells (Level 0 x) s) → expression_of s ≡ Some (x, nat_lt limit (nesting (Level 0 x) s h))
-unfolding run reduced demand Follows after operand levels behind_frames is_so
+unfolding run reduced demand Follows after operand levels behind_frames
 expression_complete s x h =
     let at_root : 0 + nesting (Level 0 x) s h ≡ nesting (Level 0 x) s h = omega arith in
     ap (λ (u : List Terminal). run [] m.Wanted false u) (sym (append-nil s))
     ∙ complete (Level 0 x) s [] [] false h (omega arith, omega arith)
-    ∙ ap (λ (n : ℕ). is_so x (nat_lt limit n)) at_root
+    ∙ ap (λ (n : ℕ). read_as x (nat_lt limit n)) at_root
 
 pub one_expression : (s : List Terminal) (x y : Expr) → Spells (Level 0 x) s → Spells (Level 0 y) s → x ≡ y
 one_expression s x y h i =

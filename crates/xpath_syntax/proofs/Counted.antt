@@ -7,6 +7,7 @@ use Rattle.xpath_words.specs.declared.terminal.Terminal.TheVariants as t
 use Rattle.xpath_syntax.specs.declared.expr.Expr.{Expr}
 use Rattle.xpath_syntax.specs.Grammar.{operator_of, Part, Level, Filter, Passing, Leading, Stepping, Located, Spells, binary, tighter, negation, of_filter, of_path, root, literal, number, group, no_arguments, call, first_argument, next_argument, predicate, from_context, from_root, from_anywhere, from_filter, below_filter, further, below, dot, double_dot, child, along, step_predicate, stepped}
 use Rattle.xpath_syntax.specs.Counts.{begins_part, ends_part, is_comma, commas, begins_end, arguments, ArgumentsCounted}
+use Rattle.xpath_syntax.proofs.Tools.{bracketed}
 
 -- how far out the part ends that stands behind so many levels
 inside : ℕ → Part → ℕ
@@ -34,9 +35,6 @@ skip_operator d o sign more e = let n = no_mark o sign e in skip d sign more n.0
 
 at : (d : ℕ) (a b rest : List Terminal) → commas d ((a ++ b) ++ rest) ≡ commas d (a ++ (b ++ rest))
 at d a b rest = ap (λ (u : List Terminal). commas d u) (append_assoc a b rest)
-
-bracketed : (a c rest : List Terminal) → (a ++ (t.OpenBracket ∷ (c ++ (t.CloseBracket ∷ [])))) ++ rest ≡ a ++ (t.OpenBracket ∷ (c ++ (t.CloseBracket ∷ rest)))
-bracketed a c rest = simp append_assoc
 
 -- a part has no comma outside of its own parts
 balanced : (part : Part) (s rest : List Terminal) (d : ℕ) → Spells part s → commas d (s ++ rest) ≡ commas (inside d part) rest

@@ -21,6 +21,7 @@ use Rattle.xpath_syntax.specs.Counts.{arguments}
 use Rattle.xpath_syntax.specs.Offences.{terminals, permitted, offence_of, or_else, first_offence}
 use Rattle.xpath_syntax.specs.Lawful.{Subject, One, All, Steps, Lawful}
 use Rattle.xpath_syntax.specs.Lawful as law
+use Rattle.xpath_syntax.proofs.Tools.{bracketed}
 use Rattle.xpath_syntax.proofs.Counted.{arguments_counted}
 
 -- each call among the terminals has a permitted number of arguments behind it
@@ -59,9 +60,6 @@ regrouped a b rest h = subst Permitted (append_assoc a b rest) h
 behind_one : (a : List Terminal) (sign : Terminal) (b : List Terminal) → Permitted (a ++ (sign ∷ b)) → Permitted b
 unfolding Permitted
 behind_one a sign b h = (dropped a (sign ∷ b) h).1
-
-bracketed : (a c rest : List Terminal) → Permitted ((a ++ (t.OpenBracket ∷ (c ++ (t.CloseBracket ∷ [])))) ++ rest) → Permitted (a ++ (t.OpenBracket ∷ (c ++ (t.CloseBracket ∷ rest))))
-bracketed a c rest h = let e : (a ++ (t.OpenBracket ∷ (c ++ (t.CloseBracket ∷ [])))) ++ rest ≡ a ++ (t.OpenBracket ∷ (c ++ (t.CloseBracket ∷ rest))) = simp append_assoc in subst Permitted e h
 
 -- ---- lists
 
@@ -118,7 +116,7 @@ lawful part s rest (next_argument a b g args x before inner) h =
     let i = regrouped a (t.Comma ∷ b) rest h in
     all_joined args x (lawful (Passing g args) a (t.Comma ∷ (b ++ rest)) before i) (lawful (Level 0 x) b rest inner (behind_one a t.Comma (b ++ rest) i))
 lawful part s rest (predicate a c b ps x before inner) h =
-    let i = bracketed a c rest h in
+    let i = subst Permitted (bracketed a c rest) h in
     let w = lawful (Filter b ps) a (t.OpenBracket ∷ (c ++ (t.CloseBracket ∷ rest))) before i in
     (w.0, all_joined ps x w.1 (lawful (Level 0 x) c (t.CloseBracket ∷ rest) inner (behind_one a t.OpenBracket (c ++ (t.CloseBracket ∷ rest)) i)))
 lawful part s rest from_context h = (law.from_context, law.no_steps)
@@ -147,7 +145,7 @@ lawful part s rest (along a p ss d x inner) h =
     let w = lawful (Leading p ss) a (t.Axis d ∷ (t.Test x ∷ rest)) inner (regrouped a (t.Axis d ∷ (t.Test x ∷ [])) rest h) in
     (w.0, w.1, law.none)
 lawful part s rest (step_predicate a c p ss d x ps y before inner) h =
-    let i = bracketed a c rest h in
+    let i = subst Permitted (bracketed a c rest) h in
     let w = lawful (Stepping p ss d x ps) a (t.OpenBracket ∷ (c ++ (t.CloseBracket ∷ rest))) before i in
     (w.0, w.1, all_joined ps y w.2 (lawful (Level 0 y) c (t.CloseBracket ∷ rest) inner (behind_one a t.OpenBracket (c ++ (t.CloseBracket ∷ rest)) i)))
 lawful part s rest (stepped a p ss d x ps inner) h =

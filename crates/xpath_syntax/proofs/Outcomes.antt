@@ -1,6 +1,7 @@
 -- What the outcome says in the words of the grammar.
 use Rattle.std.proofs.Common.{◌≡◌, ℕ, ◌<◌, ◌≤◌, nat_lt, Bool, true, false, cond, List, [], ◌∷◌, length, Option, Some, None, Result, Ok, Err, IfOk, IsErrOf, refl, sym, ap, subst, ◌∙◌, arith}
 use Rattle.std.specs.Str.{chars}
+use Rattle.sig_base.proofs.OptionLemmas.{some_is}
 use Rattle.xpath_words.specs.Prefixes.{Pair}
 use Rattle.xpath_words.specs.Tokens.{tokens_of}
 use Rattle.xpath_words.specs.declared.terminal.Terminal.{Terminal}
@@ -15,8 +16,7 @@ use Rattle.xpath_words.specs.declared.terminal.Offence.TheVariants as offence
 use Rattle.xpath_syntax.specs.Offences.{terminals, refusal_of, permitted, offence_of, or_else, first_offence}
 use Rattle.xpath_syntax.specs.Reading.{expression_of}
 use Rattle.xpath_syntax.specs.Outcome.{greatest, Means, too_long, no_tokens, not_spelled, too_deep, offending, spelled, Spelled, SpellsNone, offended, decided, tokens_outcome, parse_outcome, Refuses, Answers, IsMeant}
-use Rattle.xpath_syntax.proofs.Tools.{some_is}
-use Rattle.xpath_syntax.proofs.Complete.{expression_complete}
+use Rattle.xpath_syntax.proofs.Complete.{expression_complete, read_as}
 use Rattle.xpath_syntax.proofs.Sound.{expression_sound}
 use Rattle.xpath_syntax.proofs.Lawfulness.{expression_lawful}
 
@@ -90,19 +90,15 @@ none_read : (read : Option (Expr × Bool)) (ts : List Terminal) → expression_o
 none_read None ts e f = refl
 none_read (Some r) ts e f = absurd (f r.0 (expression_sound ts r e))
 
-read_as : Expr → Bool → Option (Expr × Bool)
-read_as x deep = Some (x, deep)
-
 read_outcome : (text : List ℕ) (ps : List Pair) (ts : List Token) (x : Expr) (deep : Bool) → length text ≤ greatest → tokens_of (chars text) ps ≡ Some ts → (h : Spells (Level 0 x) (terminals ts))
     → nat_lt limit (nesting (Level 0 x) (terminals ts) h) ≡ deep → parse_outcome text ps ≡ decided (first_offence ts) (Some (x, deep))
-unfolding read_as
 read_outcome text ps ts x deep short reads h is =
     short_outcome text ps short
     ∙ ap tokens_outcome reads
     ∙ ap (decided (first_offence ts)) (expression_complete (terminals ts) x h ∙ ap (λ (b : Bool). read_as x b) is)
 
 pub means_outcome : (text : List ℕ) (ps : List Pair) (r : Result Expr SyntaxRefusal) → Means text ps r → parse_outcome text ps ≡ r
-unfolding parse_outcome read_as
+unfolding parse_outcome
 means_outcome text ps r (too_long text' ps' h) = rw (long_is (length text) h) refl
 means_outcome text ps r (no_tokens text' ps' short reads) = short_outcome text ps short ∙ ap tokens_outcome reads
 means_outcome text ps r (not_spelled text' ps' ts short reads f) =

@@ -1,5 +1,6 @@
 -- What is read is spelled so.
 use Rattle.std.proofs.Common.{◌≡◌, ℕ, zero, suc, ◌+◌, ◌-◌, ◌≤◌, nat_le, Bool, true, false, ◌||◌, cond, List, [], ◌∷◌, ◌++◌, Option, Some, None, refl, sym, ap, subst, ◌∙◌, append_assoc, append-nil, arith}
+use Rattle.sig_base.proofs.OptionLemmas.{some_is, bind_some, cond_some}
 use Rattle.xpath_words.specs.declared.operator.BinaryOp.{BinaryOp}
 use Rattle.xpath_words.specs.declared.operator.BinaryOp.TheVariants as op
 use Rattle.xpath_words.specs.declared.function.Function.{Function}
@@ -21,7 +22,6 @@ use Rattle.xpath_syntax.specs.declared.mode.Mode.TheVariants as m
 use Rattle.xpath_syntax.specs.Grammar.{level, operator_of, filtered, anywhere, itself, parent, Part, Level, Filter, Passing, Leading, Stepping, Located, Spells, binary, tighter, negation, of_filter, of_path, root, literal, number, group, no_arguments, call, first_argument, next_argument, predicate, from_context, from_root, from_anywhere, from_filter, below_filter, further, below, dot, double_dot, child, along, step_predicate, stepped}
 use Rattle.xpath_syntax.specs.Nesting.{own_levels}
 use Rattle.xpath_syntax.specs.Reading.{wanted, reduced, State, steps_of, with_predicate, closed, bracket_closed, separated, with_operator, ended_by, continued_by, behind, step_begun, called, primary_begun, begun, behind_filter, behind_path, behind_step, behind_axis, begins_step, behind_root, step, whole, operand_of, finish, deepens, run, expression_of}
-use Rattle.xpath_syntax.proofs.Tools.{bind_some, cond_some, some_is}
 
 looser : (n l : ℕ) (a : List Terminal) (x : Expr) → Spells (Level (n + l) x) a → Spells (Level l x) a
 looser zero l a x h = let P : ℕ → Type 0 = λ n. Spells (Level n x) a in subst P (omega arith) h

@@ -1,5 +1,6 @@
 -- Reading terminals from left to right, with the parts that wait for an expression on a stack, the innermost first.
-use Rattle.std.specs.Prelude.{ℕ, suc, ◌+◌, Bool, true, false, ◌||◌, List, [], ◌∷◌, ◌++◌, Option, Some, None, option_and_then, nat_le, nat_lt, if◌then◌else◌}
+use Rattle.std.specs.Prelude.{ℕ, suc, ◌+◌, Bool, true, false, ◌||◌, List, [], ◌∷◌, ◌++◌, Option, Some, None, nat_le, nat_lt, if◌then◌else◌}
+use Rattle.sig_base.specs.Options.{◌>>=◌}
 use Rattle.xpath_words.specs.declared.operator.BinaryOp.{BinaryOp}
 use Rattle.xpath_words.specs.declared.axis.AxisName.{AxisName}
 use Rattle.xpath_words.specs.declared.axis.AxisName.TheVariants as axis
@@ -17,10 +18,6 @@ use Rattle.xpath_syntax.specs.declared.mode.Mode.{Mode}
 use Rattle.xpath_syntax.specs.declared.mode.Mode.TheVariants as m
 use Rattle.xpath_syntax.specs.Grammar.{level, operator_of, filtered, step_with, anywhere, itself, parent}
 use Rattle.xpath_syntax.specs.Nesting.{own_levels, limit}
-
-infixl 10 ◌>>=◌
-abbrev pub ◌>>=◌ : {A B : Type 0} → Option A → (A → Option B) → Option B
-o >>= f = option_and_then f o
 
 -- the level of the operand that is wanted behind these frames, the innermost first
 abbrev pub wanted : List Frame → ℕ

@@ -1,6 +1,7 @@
 -- One turn of the loop over meant tokens.
 use Rattle.std.proofs.Common.{◌≡◌, ℕ, zero, suc, ◌<◌, List, [], ◌∷◌, ◌++◌, length, drop, Option, Some, None, refl, sym, ap, ◌∙◌, append-nil, length-drop, arith}
 use Rattle.std.specs.Prelude.{slice_get}
+use Rattle.sig_base.proofs.OptionLemmas.{some_is}
 use Rattle.xpath_words.specs.Reading.{before_all}
 use Rattle.xpath_words.specs.Prefixes.{Pair}
 use Rattle.xpath_words.specs.Terminals.{behind_first, group_at, groups_behind}
@@ -9,7 +10,6 @@ use Rattle.xpath_words.specs.declared.meaning.Meant.{Meant}
 use Rattle.xpath_words.specs.declared.terminal.Token.{Token}
 use Rattle.xpath_words.specs.declared.fault.TokensFault.{TokensFault}
 use Rattle.xpath_words.specs.declared.fault.TokensFault.TheVariants.{NotXPath, Memory}
-use Rattle.xpath_words.proofs.Runs.{some_is}
 use Rattle.xpath_words.proofs.Turns.{front_again}
 
 -- behind the tokens of a terminal the others are read

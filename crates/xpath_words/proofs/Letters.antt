@@ -1,22 +1,10 @@
 -- Which classes of characters exclude each other.
 use Rattle.std.proofs.Common.{◌≡◌, ℕ, ◌<◌, ◌≤◌, Bool, true, false, List, [], ◌∷◌, refl, sym, ◌∙◌, arith}
-use Rattle.std.specs.Prelude.{◌&&◌, ◌||◌, ◌==◌, not, nat_le}
+use Rattle.std.specs.Prelude.{◌||◌, ◌==◌, not, nat_le}
 use Rattle.std.specs.List.{list_all}
-use Rattle.std.proofs.lemmas.Bool.{eqb-true, false≢true}
+use Rattle.std.proofs.lemmas.Bool.{eqb-true, false≢true, false_from_ne_true, and_parts}
 use Rattle.xml_names.specs.Characters.{Range, in_some, name_start_ranges, is_name_start, is_name_char}
 use Rattle.xpath_words.specs.Characters.{is_space, is_digit, is_quote, is_star, begins_name, is_in_name}
-
-pub not_true : (b : Bool) → (b ≡ true → ⊥) → b ≡ false
-not_true true n = absurd (n refl)
-not_true false n = refl
-
-pub not_false : (b : Bool) → not b ≡ false → b ≡ true
-not_false true e = refl
-not_false false e = absurd cc
-
-pub both : (a b : Bool) → (a && b) ≡ true → (a ≡ true) × (b ≡ true)
-both true b e = (refl, e)
-both false b e = absurd cc
 
 pub either_of : (a b : Bool) → (a || b) ≡ true → (a ≡ false → b ≡ true)
 either_of true b e h = absurd cc
@@ -29,7 +17,7 @@ le_false m n h = grind arith
 below_all : (rs : List Range) (c n : ℕ) → c < n → list_all (λ (r : Range). nat_le n r.from) rs ≡ true → in_some rs c ≡ false
 below_all [] c n h e = refl
 below_all (r ∷ rs) c n h e =
-    let p = both (nat_le n r.from) (list_all (λ (q : Range). nat_le n q.from) rs) e in
+    let p = and_parts (nat_le n r.from) (list_all (λ (q : Range). nat_le n q.from) rs) e in
     let q : c < r.from = grind arith in
     rw (le_false r.from c q) (below_all rs c n h p.1)
 
@@ -63,11 +51,11 @@ quote_is_no_digit c e = elim (c == 34) as (λ b. (c == 34) ≡ b → is_digit c 
 pub start_is_in_name : (c : ℕ) → begins_name c ≡ true → is_in_name c ≡ true
 unfolding is_name_char
 start_is_in_name c e =
-    let p = both (is_name_start c) (not (c == 58)) e in rw (p.0, p.1) refl
+    let p = and_parts (is_name_start c) (not (c == 58)) e in rw (p.0, p.1) refl
 
 pub start_is_no_star : (c : ℕ) → begins_name c ≡ true → is_star c ≡ false
 unfolding is_name_start
-start_is_no_star c e = not_true (is_star c) (λ h. let i : c ≡ 42 = eqb-true c 42 h in false≢true (rw i at e))
+start_is_no_star c e = false_from_ne_true (is_star c) (λ h. let i : c ≡ 42 = eqb-true c 42 h in false≢true (rw i at e))
 
 pub colon_is_not_in_name : is_in_name 58 ≡ false
 unfolding is_name_start is_name_char
@@ -91,13 +79,13 @@ space_low c e = elim (c == 32) as (λ b. (c == 32) ≡ b → c < 33) [
 ] refl
 
 pub high_is_no_space : (c : ℕ) → 33 ≤ c → is_space c ≡ false
-high_is_no_space c h = not_true (is_space c) (λ e. let k = space_low c e in absurd (omega (arith, k, h)))
+high_is_no_space c h = false_from_ne_true (is_space c) (λ e. let k = space_low c e in absurd (omega (arith, k, h)))
 
 pub digit_is_no_space : (c : ℕ) → is_digit c ≡ true → is_space c ≡ false
 digit_is_no_space c e = high_is_no_space c (grind arith)
 
 pub name_is_no_space : (c : ℕ) → begins_name c ≡ true → is_space c ≡ false
-name_is_no_space c e = not_true (is_space c) (λ h. let k = space_low c h in false≢true (sym (low_is_no_name c (omega (arith, k))) ∙ e))
+name_is_no_space c e = false_from_ne_true (is_space c) (λ h. let k = space_low c h in false≢true (sym (low_is_no_name c (omega (arith, k))) ∙ e))
 
 pub quote_is_no_space : (c : ℕ) → is_quote c ≡ true → is_space c ≡ false
 quote_is_no_space c e = elim (c == 34) as (λ b. (c == 34) ≡ b → is_space c ≡ false) [

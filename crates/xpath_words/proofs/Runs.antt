@@ -1,11 +1,9 @@
 -- Runs of characters, and one turn of a loop over one.
-use Rattle.std.proofs.Common.{◌≡◌, ℕ, suc, ◌<◌, ◌≤◌, Bool, true, false, cond, List, [], ◌∷◌, ◌++◌, length, Option, Some, None, refl, ap, append_assoc, append-nil, arith}
+use Rattle.std.proofs.Common.{◌≡◌, ℕ, suc, ◌<◌, ◌≤◌, Bool, true, false, cond, List, [], ◌∷◌, ◌++◌, length, Some, None, refl, ap, append_assoc, append-nil, arith}
 use Rattle.std.specs.List.{list_all}
-use Rattle.xpath_words.proofs.Letters.{both}
+use Rattle.std.proofs.lemmas.Bool.{and_parts}
+use Rattle.sig_base.proofs.OptionLemmas.{some_is}
 use Rattle.xpath_words.specs.Characters.{first, behind_first, front, behind}
-
-pub some_is : {A : Type 0} (x y : A) → ◌≡◌ {A = Option A} (Some x) (Some y) → x ≡ y
-some_is x y e = cc
 
 pub behind_taken : (p : ℕ → Bool) (xs : List ℕ) (c : ℕ) → first xs ≡ Some c → p c ≡ true → behind p (behind_first xs) ≡ behind p xs
 unfolding behind
@@ -72,12 +70,12 @@ run_passes p (x ∷ xs) = passes_at p x (front p xs) (p x) refl (run_passes p xs
 pub behind_run : (p : ℕ → Bool) (s rest : List ℕ) → list_all p s ≡ true → behind p (s ++ rest) ≡ behind p rest
 unfolding behind
 behind_run p [] rest e = refl
-behind_run p (x ∷ s) rest e = let q = both (p x) (list_all p s) e in rw q.0 (behind_run p s rest q.1)
+behind_run p (x ∷ s) rest e = let q = and_parts (p x) (list_all p s) e in rw q.0 (behind_run p s rest q.1)
 
 pub front_run : (p : ℕ → Bool) (s rest : List ℕ) → list_all p s ≡ true → front p (s ++ rest) ≡ s ++ front p rest
 unfolding front
 front_run p [] rest e = refl
-front_run p (x ∷ s) rest e = let q = both (p x) (list_all p s) e in rw q.0 (ap (λ (t : List ℕ). x ∷ t) (front_run p s rest q.1))
+front_run p (x ∷ s) rest e = let q = and_parts (p x) (list_all p s) e in rw q.0 (ap (λ (t : List ℕ). x ∷ t) (front_run p s rest q.1))
 
 pub behind_at : (p : ℕ → Bool) (x : ℕ) (rest : List ℕ) → p x ≡ false → behind p (x ∷ rest) ≡ x ∷ rest
 unfolding behind

@@ -2,14 +2,15 @@
 use Rattle.std.proofs.Common.{◌≡◌, ℕ, zero, suc, ◌-◌, ◌≤◌, ◌<◌, true, false, List, [], ◌∷◌, ◌++◌, length, Option, Some, None, refl, sym, ap, subst, ◌∙◌, length-append, arith}
 use Rattle.std.specs.Prelude.{◌↔◌}
 use Rattle.std.specs.List.{list_all}
+use Rattle.std.proofs.lemmas.Bool.{and_parts}
+use Rattle.sig_base.proofs.OptionLemmas.{some_is}
 use Rattle.xpath_words.specs.Characters.{is_space}
 use Rattle.xpath_words.specs.Words.{sign_text, IsNCName, AreDigits, Spells, sign, literal, whole, decimal, fraction, name, qualified, any_in, IsLongest, SpellsAll, no_more, one_more}
 use Rattle.xpath_words.specs.Reading.{Front, word_of, before_all, words_behind, words_of}
 use Rattle.xpath_words.specs.declared.word.Sign.{Sign}
 use Rattle.xpath_words.specs.declared.word.Sign.TheVariants as signs
 use Rattle.xpath_words.specs.declared.word.Word.{Word}
-use Rattle.xpath_words.proofs.Letters.{both, digit_is_no_space, name_is_no_space, quote_is_no_space}
-use Rattle.xpath_words.proofs.Runs.{some_is}
+use Rattle.xpath_words.proofs.Letters.{digit_is_no_space, name_is_no_space, quote_is_no_space}
 use Rattle.xpath_words.proofs.WordLaws.{Longest, word_longest, longest_read}
 
 -- ---- A token begins with no white space
@@ -118,7 +119,7 @@ word_shorter xs rest w e =
 spaces_read : (space rest : List ℕ) → list_all is_space space ≡ true → words_behind 0 (space ++ rest) ≡ words_behind 0 rest
 spaces_read [] rest e = refl
 spaces_read (c ∷ space) rest e =
-    let q = both (is_space c) (list_all is_space space) e in space_read c (space ++ rest) q.0 ∙ spaces_read space rest q.1
+    let q = and_parts (is_space c) (list_all is_space space) e in space_read c (space ++ rest) q.0 ∙ spaces_read space rest q.1
 
 word_first : (s rest : List ℕ) (w : Word) → Solid s → word_of (s ++ rest) ≡ Some (w, rest) → words_behind 0 (s ++ rest) ≡ before_all w (words_behind 0 rest)
 word_first [] rest w n e = absurd n
@@ -127,7 +128,7 @@ word_first (c ∷ s) rest w n e = word_step c (s ++ rest) w rest n e
 only_space : (space : List ℕ) → list_all is_space space ≡ true → words_behind 0 space ≡ Some []
 unfolding words_behind
 only_space [] e = refl
-only_space (c ∷ space) e = let q = both (is_space c) (list_all is_space space) e in rw q.0 (only_space space q.1)
+only_space (c ∷ space) e = let q = and_parts (is_space c) (list_all is_space space) e in rw q.0 (only_space space q.1)
 
 pub all_read : (text : List ℕ) (ws : List Word) → SpellsAll text ws → words_of text ≡ Some ws
 all_read text ws (no_more space e) = only_space space e

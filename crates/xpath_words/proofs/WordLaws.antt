@@ -4,7 +4,8 @@ use Rattle.std.proofs.Common.{◌≡◌, ℕ, ◌+◌, ◌≤◌, Bool, true, fa
 use Rattle.std.specs.Prelude.{bytes_eq, find, ◌&&◌, ◌==◌}
 use Rattle.std.proofs.lemmas.Slice.Eq.{bytes_eq-Decides}
 use Rattle.std.specs.List.{list_all}
-use Rattle.std.proofs.lemmas.Bool.{eqb-true, eq-eqb}
+use Rattle.std.proofs.lemmas.Bool.{eqb-true, eq-eqb, and_parts, not-false}
+use Rattle.sig_base.proofs.OptionLemmas.{some_is}
 use Rattle.xml_names.specs.Characters.{is_name_start}
 use Rattle.xpath_words.specs.Characters.{is_digit, is_quote, is_point, is_star, differs, begins_name, is_in_name, begins, is_empty, first, behind_first, front, behind}
 use Rattle.xpath_words.specs.Words.{sign_text, IsNCName, AreDigits, Spells, sign, literal, whole, decimal, fraction, name, qualified, any_in, IsLongest}
@@ -13,8 +14,8 @@ use Rattle.xpath_words.specs.declared.word.Sign.{Sign}
 use Rattle.xpath_words.specs.declared.word.Sign.TheVariants as signs
 use Rattle.xpath_words.specs.declared.word.Word.{Word}
 use Rattle.xpath_words.specs.declared.word.Word.TheVariants as words
-use Rattle.xpath_words.proofs.Letters.{both, not_false, digit_is_no_name, low_is_no_name, quote_low, quote_is_no_digit, start_is_in_name, start_is_no_star, colon_is_not_in_name}
-use Rattle.xpath_words.proofs.Runs.{run_parts, run_passes, behind_run, front_run, behind_at, front_at, behind_le, behind_first_le, run_ends, some_is}
+use Rattle.xpath_words.proofs.Letters.{digit_is_no_name, low_is_no_name, quote_low, quote_is_no_digit, start_is_in_name, start_is_no_star, colon_is_not_in_name}
+use Rattle.xpath_words.proofs.Runs.{run_parts, run_passes, behind_run, front_run, behind_at, front_at, behind_le, behind_first_le, run_ends}
 
 -- ---- No token is longer than the one that is read
 
@@ -285,7 +286,7 @@ digits_front (c ∷ cs) e = rw e (e, run_passes is_digit cs)
 
 follows_is : (p : ℕ → Bool) (cs : List ℕ) → follows p cs ≡ true → (cs ≡ 58 ∷ behind_first cs) × (begins p (behind_first cs) ≡ true)
 follows_is p [] e = absurd cc
-follows_is p (c ∷ cs) e = let q = both (c == 58) (begins p cs) e in (ap (λ (d : ℕ). d ∷ cs) (eqb-true c 58 q.0), q.1)
+follows_is p (c ∷ cs) e = let q = and_parts (c == 58) (begins p cs) e in (ap (λ (d : ℕ). d ∷ cs) (eqb-true c 58 q.0), q.1)
 
 begins_star : (cs : List ℕ) → begins is_star cs ≡ true → cs ≡ 42 ∷ behind_first cs
 begins_star [] e = absurd cc
@@ -351,7 +352,7 @@ fraction_of_read xs e h =
 
 -- a literal ends at its mark
 same_mark : (mark y : ℕ) → differs mark y ≡ false → y ≡ mark
-same_mark mark y e = eqb-true y mark (not_false (y == mark) e)
+same_mark mark y e = eqb-true y mark (not-false (y == mark) e)
 
 mark_ends : (mark : ℕ) (cs ys : List ℕ) (y : ℕ) → behind (differs mark) cs ≡ y ∷ ys → y ≡ mark
 mark_ends mark cs ys y e = same_mark mark y (run_ends (differs mark) cs ys y e)
@@ -427,7 +428,7 @@ word_of_read xs =
     (λ no_name. chosen (begins is_digit xs) xs (Some (number_of xs)) _ (λ e. number_of_read xs e)
     (λ no_digit. chosen (begins is_quote xs) xs (literal_of xs) _ (λ e. literal_of_read xs e)
     (λ no_quote. chosen (begins is_point xs && begins is_digit (behind_first xs)) xs (Some (fraction_of xs)) (sign_of xs)
-    (λ e. let q = both (begins is_point xs) (begins is_digit (behind_first xs)) e in fraction_of_read xs q.0 q.1)
+    (λ e. let q = and_parts (begins is_point xs) (begins is_digit (behind_first xs)) e in fraction_of_read xs q.0 q.1)
     (λ no_point. sign_of_read xs))))
 
 pub word_read : (xs : List ℕ) (r : Front) → word_of xs ≡ Some r → Read xs r
