@@ -37,20 +37,20 @@ fn bearer(doc: &Doc<'_>, i: u32) -> u32
 fn close_ended<S: OctetSink>(
     doc: &Doc<'_>,
     set: SetView<'_>,
-    open: &mut u32,
+    opened: &mut u32,
     next: u32,
     sink: &mut S,
 ) -> Put
-    requires here { open.old < length doc.now }
-    ensures walked { (before : _) (opens : ℕ → List ℕ) → Progress doc.now opens (closing doc.now (in_view set.entry)) S.stands_for S.refusals S.makes before sink.old open.old next
-        → Closed doc.now opens (closing doc.now (in_view set.entry)) S.stands_for S.refusals S.makes before sink.new open.new next result }
+    requires here { opened.old < length doc.now }
+    ensures walked { (before : _) (opens : ℕ → List ℕ) → Progress doc.now opens (closing doc.now (in_view set.entry)) S.stands_for S.refusals S.makes before sink.old opened.old next
+        → Closed doc.now opens (closing doc.now (in_view set.entry)) S.stands_for S.refusals S.makes before sink.new opened.new next result }
 {
     let _rows = doc.rows();
-    while *open != 0 && doc.last(*open) < next {
-        if let Put::Refused = put_closing(doc, set, *open, sink) {
+    while *opened != 0 && doc.last(*opened) < next {
+        if let Put::Refused = put_closing(doc, set, *opened, sink) {
             return Put::Refused;
         }
-        *open = doc.above(*open);
+        *opened = doc.above(*opened);
     }
     Put::Done
 }
@@ -69,12 +69,12 @@ fn close_all<S: OctetSink>(
         → Puts S.stands_for S.refusals S.makes before sink.new (whole doc.now opens (closing doc.now (in_view set.entry))) result }
 {
     let _rows = doc.rows();
-    let mut open = innermost;
-    while open != 0 {
-        if let Put::Refused = put_closing(doc, set, open, sink) {
+    let mut opened = innermost;
+    while opened != 0 {
+        if let Put::Refused = put_closing(doc, set, opened, sink) {
             return Put::Refused;
         }
-        open = doc.above(open);
+        opened = doc.above(opened);
     }
     Put::Done
 }
@@ -98,19 +98,19 @@ fn write_range<S: OctetSink>(
 {
     let _rows = doc.rows();
     let element = document_element(doc);
-    let mut open = doc.above(start);
+    let mut opened = doc.above(start);
     for next in start..until {
-        if let Put::Refused = close_ended(doc, set, &mut open, next, sink) {
+        if let Put::Refused = close_ended(doc, set, &mut opened, next, sink) {
             return Put::Refused;
         }
         if is_child(doc, next) {
             if let Put::Refused = put_opening(doc, set, method, comments, element, next, sink) {
                 return Put::Refused;
             }
-            open = next;
+            opened = next;
         }
     }
-    close_all(doc, set, open, until, sink)
+    close_all(doc, set, opened, until, sink)
 }
 
 /// Writes the canonical form of a set, with comments or without. The walk goes over the range that has the set's rows,

@@ -15,7 +15,7 @@ loop-next-init g c =
     let w = c.rows-rows.ensures.shaped in
     let before = c.requires.quiet_before in
     let there : c.args.start < length rows = let order = c.requires.ordered in let within = c.requires.within in omega arith in
-    rw c.above-open.ensures (record {
+    rw c.above-opened.ensures (record {
       here = parent_there rows w c.args.start there;
       walked = begins_at rows w (opening rows set rule c.args.comments) (closing rows set) _ _ _ c.args.sink.now c.args.start c.requires.behind_root there
           (λ (x : ℕ) (lt : x < c.args.start). no_opening rows w set rule c.args.comments x (before x lt)) (λ (x : ℕ) (lt : x < c.args.start). no_closing rows w set rule c.args.comments x (before x lt));
@@ -44,9 +44,9 @@ loop-next-preserved g c =
     let below = next_is_below rows w o (closing rows set) _ _ _ _ next closed.0 lt closed.1 in
     elim c.if-is_child.branch [
       | then-is_child+in_default-put_opening b ↦
-          rw (b.sink-is, b.open-is) (record { here = lt; walked = opens rows w o (closing rows set) _ _ _ _ next closed.0 lt below (sym b.if-is_child.ensures) b.in_default-put_opening.ensures.by })
+          rw (b.sink-is, b.opened-is) (record { here = lt; walked = opens rows w o (closing rows set) _ _ _ _ next closed.0 lt below (sym b.if-is_child.ensures) b.in_default-put_opening.ensures.by })
       | else-is_child b ↦
-          rw (b.sink-is, b.open-is) (record { here = let begun = closed.0.stands.begun in omega arith; walked = passes rows w o (closing rows set) _ _ _ _ next closed.0 lt below (sym b.if-is_child.ensures) })
+          rw (b.sink-is, b.opened-is) (record { here = let begun = closed.0.stands.begun in omega arith; walked = passes rows w o (closing rows set) _ _ _ _ next closed.0 lt below (sym b.if-is_child.ensures) })
     ]
 
 pub returns : goal.returns
