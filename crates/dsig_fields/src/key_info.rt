@@ -23,7 +23,7 @@ fn name_at(alloc: Global, doc: &Doc<'_>, y: u32) -> Result<Option<Text>, FieldRe
         return Ok(None);
     }
     let text = simple_text(alloc, doc, y)?;
-    Ok(Some(Text::from_str(alloc, text.as_str())?))
+    Ok(Some(Text::from_string(text)))
 }
 
 /// KeyInfo: the content of the first KeyName, if there is one (XML Signature 1.1 §4.5). Each KeyName is read.

@@ -52,7 +52,7 @@ fn xpath_step(alloc: Global, doc: &Doc<'_>, x: u32) -> Result<Step, FieldRefusal
     let row = children.required(doc, ElementName::XPath)?;
     let text = simple_text(alloc, doc, row)?;
     children.at_end(doc)?;
-    let text = Text::from_str(alloc, text.as_str())?;
+    let text = Text::from_string(text);
     Ok(Step::XPath { row, text })
 }
 
@@ -76,7 +76,7 @@ fn filter_at(alloc: Global, doc: &Doc<'_>, x: u32) -> Result<Filter, FieldRefusa
 {
     let kind = filter_kind_in(attribute(doc, x, "Filter")).ok_or(FieldRefusal::BadFilter(x))?;
     let text = simple_text(alloc, doc, x)?;
-    let text = Text::from_str(alloc, text.as_str())?;
+    let text = Text::from_string(text);
     Ok(Filter { kind, row: x, text })
 }
 

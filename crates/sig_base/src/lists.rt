@@ -1,5 +1,5 @@
 //! Small lists. Contracts see each of them as the list of its members.
-ghost use Rattle.std.specs.Prelude.{◌≡◌, ◌∷◌, ◌++◌, [], length, IfOk, IsTrue, OnOk, OnErr, ◌↔◌, slice_get, encode_utf8_all};
+ghost use Rattle.std.specs.Prelude.{◌≡◌, ◌∷◌, ◌++◌, [], length, IfOk, IsTrue, OnOk, OnErr, ◌↔◌, slice_get, encode_utf8_all, string_bytes};
 ghost use Rattle.std.specs.Option.{option_copied};
 ghost use Rattle.std.specs.Str.{chars};
 
@@ -147,6 +147,13 @@ impl Text {
         Ok(Text {
             text: String::from_str(alloc, text)?,
         })
+    }
+
+    /// The text of that string, which is moved: no memory is taken.
+    pub fn from_string(text: String) -> Text
+        ensures { result ≡ chars (string_bytes text) }
+    {
+        Text { text }
     }
 
     /// The empty text.
