@@ -1,8 +1,8 @@
 use Rattle.std.proofs.Common.{◌∙◌, ◌&&◌, ◌+◌, Bool, drop, sym, ap, arith}
 use Rattle.std.specs.List.{list_all}
 use Rattle.std.proofs.lemmas.Option.{slice_get_within}
+use Rattle.sig_base.proofs.ListLemmas.{drop-at, drop_none}
 use Rattle.core_validate.specs.Outcome.{is_plain}
-use Rattle.core_validate.proofs.Lists.{drop-at, drop_none}
 use Rattle.core_validate.proofs.built.are_plain.Goals as goal
 
 pub returns-then-not-is_plain : goal.returns-then-not-is_plain

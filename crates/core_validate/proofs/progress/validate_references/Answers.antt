@@ -1,10 +1,11 @@
 use Rattle.std.proofs.Common.{Ok, Err, ◌≡◌, ◌∙◌, ◌+◌, drop, ap, sym, arith}
 use Rattle.std.proofs.lemmas.Option.{slice_get_within}
 use Rattle.std.proofs.lemmas.Result.{err_from_is_err_and}
+use Rattle.sig_base.proofs.ListLemmas.{drop-at, drop_none}
 use Rattle.dsig_fields.specs.Fits.{ReferenceFits}
 use Rattle.core_validate.specs.Outcome.{references_report}
 use Rattle.core_validate.specs.Progress.{with_reference}
-use Rattle.core_validate.proofs.Lists.{all_at, drop-at, drop_none}
+use Rattle.core_validate.proofs.Lists.{all_at}
 use Rattle.core_validate.proofs.ProgressLaws.{behind, behind_all, behind_nothing, behind_one, behind_refused, refuses_on}
 use Rattle.core_validate.proofs.progress.validate_references.Goals as goal
 
