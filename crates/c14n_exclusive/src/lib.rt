@@ -1,32 +1,79 @@
-//! Exclusive XML Canonicalization 1.0 of any set of rows (Exclusive XML Canonicalization 1.0 §3), in the one call
-//! [`write_each`].
+//! Exclusive XML Canonicalization 1.0 of any set of rows (Exclusive XML Canonicalization 1.0 §3), by a [`Renderer`] that has its memory from the start.
 #![tactic(auto)]
 
-ghost use Rattle.std.specs.Prelude.{map, encode_utf8_all};
-ghost use Rattle.sig_base.specs.Puts.{Each};
+ghost use Rattle.std.specs.Prelude.{◌≡◌, IfOk, OnErr, map, encode_utf8_all};
+ghost use Rattle.sig_base.specs.Puts.{Puts};
 ghost use Rattle.node_sets.specs.View.{in_view, rows_of};
 ghost use Rattle.c14n_text.specs.Namespaces.{exclusive};
 ghost use Rattle.c14n_text.specs.Canon.{canon};
 
-use c14n_rows::{Method, write_rows};
+use c14n_rows::Method;
 use node_sets::SetView;
-use sig_base::{EachFault, OctetSink, PrefixList, Put};
+use sig_base::{NoMemory, OctetSink, PrefixList, Put};
+use std::alloc::Global;
+use std::marker::Model;
+use xml_doc::Doc;
 
-/// Writes the exclusive canonical form of a set of rows, with comments or without. `prefixes` is the PrefixList of an
-/// InclusiveNamespaces element, in which `#default` stands for the default namespace.
+/// Writes exclusive canonical forms of sets over one document.
+#[derive(Drop)]
+pub struct Renderer<'d> {
+    walks: c14n_rows::Renderer<'d>,
+}
+
+impl<'d> Model for Renderer<'d> {
+    ghost use Rattle.std.specs.Prelude.{List};
+    ghost use Rattle.xml_doc.specs.Rows.{RowOf};
+
+    ghost Value = { List RowOf };
+
+    ghost view = { λ r. r.walks };
+}
+
+impl<'d> Renderer<'d> {
+    /// Takes all memory that writing needs.
+    pub fn prepare(alloc: Global, doc: &'d Doc<'d>) -> Result<Renderer<'d>, NoMemory>
+        ensures { IfOk result (λ r. r ≡ doc.now) }
+    {
+        let walks = c14n_rows::Renderer::prepare(alloc, doc)?;
+        Ok(Renderer { walks })
+    }
+
+    /// Writes the exclusive canonical form of a set over the document, with comments or without, and takes no memory.
+    /// `prefixes` is the PrefixList of an InclusiveNamespaces element, in which `#default` stands for the default namespace.
+    ///
+    /// `Refused` comes where the sink refused a piece, and leaves a prefix of the form in it. Either answer leaves the
+    /// renderer as prepared.
+    pub fn write<S: OctetSink>(
+        &mut self,
+        set: SetView<'_>,
+        prefixes: &PrefixList,
+        comments: bool,
+        sink: &mut S,
+    ) -> Put
+        requires { rows_of set ≡ self.old }
+        ensures puts { Puts S.stands_for S.refusals S.makes sink.old sink.new
+            (canon (exclusive (map encode_utf8_all prefixes.now)) comments self.old (in_view set.entry)) result }
+        ensures as_prepared { self.new ≡ self.old }
+    {
+        self.walks
+            .write(set, Method::Exclusive(prefixes), comments, sink)
+    }
+}
+
+/// Writes the exclusive canonical form of one set of rows, with comments or without. Memory is taken for the rows of the set's range and
+/// the rows above them alone, before anything is written: where it isn't given, nothing was.
 ///
-/// A fault leaves a prefix of the form in the sink. It is `SinkRefused` where the sink refused a piece; no memory is
-/// taken, so `NoMemory` doesn't come.
-pub fn write_each<S: OctetSink>(
+/// `Refused` comes where the sink refused a piece, and leaves a prefix of the form in it.
+pub fn write_once<S: OctetSink>(
+    alloc: Global,
     set: SetView<'_>,
     prefixes: &PrefixList,
     comments: bool,
     sink: &mut S,
-) -> Result<(), EachFault>
-    ensures { Each S.stands_for S.refusals S.makes sink.old sink.new (canon (exclusive (map encode_utf8_all prefixes.now)) comments (rows_of set.entry) (in_view set.entry)) result }
+) -> Result<Put, NoMemory>
+    ensures puts { IfOk result (λ put. Puts S.stands_for S.refusals S.makes sink.old sink.new
+        (canon (exclusive (map encode_utf8_all prefixes.now)) comments (rows_of set.entry) (in_view set.entry)) put) }
+    ensures untouched { OnErr result (sink.new ≡ sink.old) }
 {
-    match write_rows(set, Method::Exclusive(prefixes), comments, sink) {
-        Put::Done => Ok(()),
-        Put::Refused => Err(EachFault::SinkRefused),
-    }
+    c14n_rows::write_once(alloc, set, Method::Exclusive(prefixes), comments, sink)
 }

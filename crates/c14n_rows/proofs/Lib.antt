@@ -2,5 +2,13 @@ pub mod AttributeLemmas
 pub mod Chains
 pub mod Range
 pub mod Ordered
-pub mod Ranges
 pub mod SoFar
+pub mod NameLemmas
+pub mod OrderLemmas
+pub mod StackLemmas
+pub mod FrameLemmas
+pub mod XmlLemmas
+pub mod RunLemmas
+pub mod StacksLemmas
+pub mod EntryLemmas
+pub mod BaseLemmas

@@ -1,28 +1,34 @@
 //! The attribute octets of an element (Canonical XML 1.0 §2.3), with the import of `xml:` attributes (§2.4).
-ghost use Rattle.std.specs.Prelude.{◌≡◌, ◌<◌, ◌≤◌, ◌-◌, ◌++◌, ◌&&◌, length, cond, IfSome, None, []};
-ghost use Rattle.std.specs.List.{filter, find, flat_map, list_any, range_with_len};
+ghost use Rattle.std.specs.Prelude.{◌≡◌, ◌<◌, ◌≤◌, ◌-◌, ◌++◌, ◌&&◌, length, cond, true, false, IfSome, None, []};
+ghost use Rattle.std.specs.List.{All, filter, find, flat_map, list_any, range_with_len};
 ghost use Rattle.sig_base.specs.Puts.{Puts};
 ghost use Rattle.xml_doc.specs.Kinds.{is_element};
-ghost use Rattle.xml_doc.specs.Fields.{attribute_rows};
+ghost use Rattle.xml_doc.specs.Fields.{attribute_rows, OwnRowsStand};
 ghost use Rattle.node_sets.specs.View.{in_view};
 ghost use Rattle.c14n_rows.specs.Rules.{rule_of};
 ghost use Rattle.c14n_text.specs.Rows.{parent_of};
-ghost use Rattle.c14n_text.specs.Attributes.{is_xml, xml_attributes, xml_above, same_name, is_row, is_imported, imported, attribute_cmp, in_order, is_inclusive, imports_attributes, written_attributes, row_attribute, attributes_octets};
-ghost use Rattle.c14n_text.specs.Choice.{is_behind, is_before, better, best_of};
+ghost use Rattle.c14n_text.specs.Attributes.{is_xml, xml_attributes, xml_above, same_name, is_row, is_inheritable, is_imported, imported, attribute_cmp, in_order, is_inclusive, imports_attributes};
+ghost use Rattle.c14n_text.specs.Bases.{base_place, is_own, joined_base, row_attribute, attributes_octets, written_attributes};
+ghost use Rattle.c14n_rows.specs.Code.Joined.{BaseThere, base_of};
+ghost use Rattle.c14n_rows.specs.Code.Stacks.{xml_at, StacksAt};
+ghost use Rattle.c14n_text.specs.Code.Choice.{is_behind, is_before, better, best_of};
+ghost use Rattle.c14n_rows.specs.Code.Order.{IsBehindFrom};
 
+use crate::bases::{Base, is_base};
 use crate::namespaces::Method;
-use c14n_text::put_attribute;
+use crate::stacks::Stacks;
+use c14n_text::{put_attribute, put_attribute_octets};
 use node_sets::SetView;
-use sig_base::{OctetSink, Put};
+use sig_base::{OctetSink, Put, XML_NAME};
 use std::cmp::Ordering;
-use xml_doc::{Doc, Kind};
+use xml_doc::{Doc, Kind, OwnRows};
 
 /// Whether an attribute row is of the namespace of `xml`.
-fn is_xml(doc: &Doc<'_>, a: u32) -> bool
+pub(crate) fn is_xml(doc: &Doc<'_>, a: u32) -> bool
     requires { a < length doc.now }
     ensures { result ≡ is_xml doc.now a }
 {
-    doc.uri(a) == "http://www.w3.org/XML/1998/namespace"
+    doc.uri(a) == XML_NAME
 }
 
 /// Whether an attribute row is of that namespace and has the local name of row `a`.
@@ -70,19 +76,21 @@ fn has_xml(doc: &Doc<'_>, e: u32, a: u32) -> bool
     }
 }
 
-/// The nearest such attribute of the elements above a row.
-fn nearest_xml(doc: &Doc<'_>, x: u32, a: u32) -> Option<u32>
+/// The nearest such attribute of the elements above a row, which stand on the stack.
+fn nearest_xml(doc: &Doc<'_>, xml: &[u32], x: u32, a: u32) -> Option<u32>
     requires here { x < length doc.now }
     requires a { a < length doc.now }
+    requires xml_are { xml.now ≡ xml_at doc.now (parent_of doc.now x) }
+    requires xml_fit { All (λ b. b < length doc.now) xml.now }
     ensures { result ≡ find (same_name doc.now a) (xml_above doc.now x) }
 {
-    let _rows = doc.rows();
-    let mut up = doc.above(x);
-    while up != 0 {
-        if let Some(found) = own_xml(doc, up, a) {
-            return Some(found);
+    let mut i = xml.len();
+    while i > 0 {
+        i -= 1;
+        let b = xml[i];
+        if doc.local_name(b) == doc.local_name(a) {
+            return Some(b);
         }
-        up = doc.above(up);
     }
     None
 }
@@ -97,22 +105,28 @@ fn is_row(found: Option<u32>, a: u32) -> bool
     }
 }
 
-/// Whether the `xml:` attribute `a` of an element above is imported to element `x`.
-fn is_imported(doc: &Doc<'_>, x: u32, a: u32) -> bool
-    requires here { x < length doc.now }
-    requires a { a < length doc.now }
-    ensures { result ≡ is_imported doc.now x a }
+/// Whether `xml:` attributes of this local name are imported as they stand.
+fn is_inheritable(method: Method<'_>, name: &str) -> bool
+    ensures { result ≡ is_inheritable (rule_of method.entry) name.now }
 {
-    is_row(nearest_xml(doc, x, a), a) && !has_xml(doc, x, a)
+    match method {
+        Method::Canonical => true,
+        Method::Eleven => name == "lang" || name == "space",
+        Method::Exclusive(_) => false,
+    }
 }
 
-/// Whether an attribute row is of the namespace of `xml`, and is imported to element `x` where it is above it.
-fn is_xml_imported(doc: &Doc<'_>, x: u32, a: u32) -> bool
+/// Whether the `xml:` attribute `a` of an element above is imported to element `x`.
+fn is_imported(doc: &Doc<'_>, method: Method<'_>, xml: &[u32], x: u32, a: u32) -> bool
     requires here { x < length doc.now }
     requires a { a < length doc.now }
-    ensures { result ≡ (is_xml doc.now a && is_imported doc.now x a) }
+    requires xml_are { xml.now ≡ xml_at doc.now (parent_of doc.now x) }
+    requires xml_fit { All (λ b. b < length doc.now) xml.now }
+    ensures { result ≡ is_imported doc.now (rule_of method.entry) x a }
 {
-    is_xml(doc, a) && is_imported(doc, x, a)
+    is_inheritable(method, doc.local_name(a))
+        && is_row(nearest_xml(doc, xml, x, a), a)
+        && !has_xml(doc, x, a)
 }
 
 /// The order of attributes: by namespace name, then by local name.
@@ -171,114 +185,234 @@ fn better_if(
     }
 }
 
-/// The first of those behind `last` among the attribute rows from `from` to before `until` that are in the set.
+/// Whether a row goes behind `last`, and before the best one so far.
+fn goes_between(doc: &Doc<'_>, last: Option<u32>, best: Option<u32>, a: u32) -> bool
+    requires last { IfSome last (λ b. b < length doc.now) }
+    requires best { IfSome best (λ b. b < length doc.now) }
+    requires a { a < length doc.now }
+    ensures { result ≡ (is_behind doc.now last a && is_before doc.now a best) }
+{
+    is_behind(doc, last, a) && is_before(doc, a, best)
+}
+
+/// Of an attribute so far and one from above that is imported or not, the one that goes first of those behind `last`. Whether it is
+/// imported is asked last, since it costs most.
+fn better_above(
+    doc: &Doc<'_>,
+    method: Method<'_>,
+    xml: &[u32],
+    x: u32,
+    last: Option<u32>,
+    best: Option<u32>,
+    a: u32,
+) -> Option<u32>
+    requires here { x < length doc.now }
+    requires a { a < length doc.now }
+    requires xml_are { xml.now ≡ xml_at doc.now (parent_of doc.now x) }
+    requires xml_fit { All (λ b. b < length doc.now) xml.now }
+    requires last { IfSome last (λ b. b < length doc.now) }
+    requires best { IfSome best (λ b. b < length doc.now) }
+    ensures value { result ≡ cond (is_imported doc.now (rule_of method.entry) x a) (better doc.now last best a) best }
+    ensures there { IfSome result (λ b. b < length doc.now) }
+{
+    if goes_between(doc, last, best, a) {
+        better_if(doc, is_imported(doc, method, xml, x, a), last, best, a)
+    } else {
+        best
+    }
+}
+
+/// Whether an element writes its attribute as one of its own.
+fn is_own(doc: &Doc<'_>, set: SetView<'_>, base: Option<Base<'_>>, a: u32) -> bool
+    requires { a < length doc.now }
+    ensures { result ≡ is_own doc.now (in_view set.entry) (base_of base.entry) a }
+{
+    set.contains(a) && !(base.is_some() && is_base(doc, a))
+}
+
+/// The first attribute row of element `x` that goes behind `last`, or `until`: they stand in order from `from` to before `until`, so
+/// that it is found by halving.
+fn first_behind(doc: &Doc<'_>, x: u32, last: Option<u32>, from: u32, until: u32) -> u32
+    requires last { IfSome last (λ b. b < length doc.now) }
+    requires ordered { from ≤ until }
+    requires within { until ≤ length doc.now }
+    requires rows { attribute_rows doc.now x ≡ range_with_len from (until - from) }
+    ensures { IsBehindFrom doc.now last from until result }
+{
+    let _rows = doc.rows();
+    let mut low = from;
+    let mut high = until;
+    while low < high {
+        let middle = low + (high - low) / 2;
+        if is_behind(doc, last, middle) {
+            high = middle;
+        } else {
+            low = middle + 1;
+        }
+    }
+    low
+}
+
+/// The first of the attribute rows from `from` to before `until` that is written as an element's own.
+fn first_own(
+    doc: &Doc<'_>,
+    set: SetView<'_>,
+    base: Option<Base<'_>>,
+    from: u32,
+    until: u32,
+) -> Option<u32>
+    requires { until ≤ length doc.now }
+    ensures value { result ≡ find (is_own doc.now (in_view set.entry) (base_of base.entry)) (range_with_len from (until - from)) }
+    ensures there { IfSome result (λ b. b < length doc.now) }
+{
+    for a in from..until {
+        if is_own(doc, set, base, a) {
+            return Some(a);
+        }
+    }
+    None
+}
+
+/// The first of those behind `last` among the attribute rows of element `x` that are written as its own.
 fn best_in_set(
     doc: &Doc<'_>,
     set: SetView<'_>,
+    base: Option<Base<'_>>,
+    x: u32,
     last: Option<u32>,
     from: u32,
     until: u32,
 ) -> Option<u32>
     requires last { IfSome last (λ b. b < length doc.now) }
-    requires rows { until ≤ length doc.now }
-    ensures value { result ≡ best_of doc.now last None (filter (in_view set.entry) (range_with_len from (until - from))) }
-    ensures there { IfSome result (λ b. b < length doc.now) }
-{
-    let mut best = None;
-    for a in from..until {
-        best = better_if(doc, set.contains(a), last, best, a);
-    }
-    best
-}
-
-/// The first of those behind `last` among an attribute and those of these that are imported to element `x`.
-fn best_of_run(
-    doc: &Doc<'_>,
-    x: u32,
-    last: Option<u32>,
-    first: Option<u32>,
-    from: u32,
-    until: u32,
-) -> Option<u32>
-    requires here { x < length doc.now }
-    requires last { IfSome last (λ b. b < length doc.now) }
-    requires first { IfSome first (λ b. b < length doc.now) }
-    requires rows { until ≤ length doc.now }
-    ensures value { result ≡ best_of doc.now last first (filter (is_imported doc.now x) (filter (is_xml doc.now) (range_with_len from (until - from)))) }
-    ensures there { IfSome result (λ b. b < length doc.now) }
-{
-    let mut best = first;
-    for a in from..until {
-        best = better_if(doc, is_xml_imported(doc, x, a), last, best, a);
-    }
-    best
-}
-
-/// The same with the attributes of one element above.
-fn best_of_element(
-    doc: &Doc<'_>,
-    x: u32,
-    e: u32,
-    last: Option<u32>,
-    first: Option<u32>,
-) -> Option<u32>
-    requires here { x < length doc.now }
-    requires element { e < length doc.now }
-    requires last { IfSome last (λ b. b < length doc.now) }
-    requires first { IfSome first (λ b. b < length doc.now) }
-    ensures value { result ≡ best_of doc.now last first (filter (is_imported doc.now x) (xml_attributes doc.now e)) }
-    ensures there { IfSome result (λ b. b < length doc.now) }
-{
-    let own = doc.own_rows(e);
-    best_of_run(doc, x, last, first, own.first_attribute, own.first_child)
-}
-
-/// The same with those of all elements above.
-fn best_above(doc: &Doc<'_>, x: u32, last: Option<u32>, first: Option<u32>) -> Option<u32>
-    requires here { x < length doc.now }
-    requires last { IfSome last (λ b. b < length doc.now) }
-    requires first { IfSome first (λ b. b < length doc.now) }
-    ensures value { result ≡ best_of doc.now last first (imported doc.now x) }
+    requires ordered { from ≤ until }
+    requires within { until ≤ length doc.now }
+    requires rows { attribute_rows doc.now x ≡ range_with_len from (until - from) }
+    ensures value { result ≡ best_of doc.now last None
+        (filter (is_own doc.now (in_view set.entry) (base_of base.entry)) (range_with_len from (until - from))) }
     ensures there { IfSome result (λ b. b < length doc.now) }
 {
     let _rows = doc.rows();
+    let start = first_behind(doc, x, last, from, until);
+    first_own(doc, set, base, start, until)
+}
+
+/// The first of those behind `last` among an attribute and those above that are imported to element `x`.
+fn best_above(
+    doc: &Doc<'_>,
+    method: Method<'_>,
+    xml: &[u32],
+    x: u32,
+    last: Option<u32>,
+    first: Option<u32>,
+) -> Option<u32>
+    requires here { x < length doc.now }
+    requires xml_are { xml.now ≡ xml_at doc.now (parent_of doc.now x) }
+    requires xml_fit { All (λ b. b < length doc.now) xml.now }
+    requires last { IfSome last (λ b. b < length doc.now) }
+    requires first { IfSome first (λ b. b < length doc.now) }
+    ensures value { result ≡ best_of doc.now last first (imported doc.now (rule_of method.entry) x) }
+    ensures there { IfSome result (λ b. b < length doc.now) }
+{
     let mut best = first;
-    let mut up = doc.above(x);
-    while up != 0 {
-        best = best_of_element(doc, x, up, last, best);
-        up = doc.above(up);
+    let mut i = xml.len();
+    while i > 0 {
+        i -= 1;
+        let a = xml[i];
+        best = better_above(doc, method, xml, x, last, best, a);
     }
     best
 }
 
-/// The first attribute behind `last` among those of an element that are in the set, and those that are imported to it.
-fn next_attribute(doc: &Doc<'_>, set: SetView<'_>, x: u32, last: Option<u32>) -> Option<u32>
-    requires here { x < length doc.now }
+/// The same with a joined `xml:base` that isn't empty.
+fn best_base(
+    doc: &Doc<'_>,
+    base: Option<Base<'_>>,
+    last: Option<u32>,
+    first: Option<u32>,
+) -> Option<u32>
+    requires base { BaseThere doc.now base }
     requires last { IfSome last (λ b. b < length doc.now) }
-    ensures value { result ≡ best_of doc.now last None (filter (in_view set.entry) (attribute_rows doc.now x) ++ imported doc.now x) }
+    requires first { IfSome first (λ b. b < length doc.now) }
+    ensures value { result ≡ best_of doc.now last first (base_place (base_of base.entry)) }
     ensures there { IfSome result (λ b. b < length doc.now) }
 {
-    let own = doc.own_rows(x);
-    let best = best_in_set(doc, set, last, own.first_attribute, own.first_child);
-    best_above(doc, x, last, best)
+    match base {
+        Some(joined) => better_if(doc, !joined.value.is_empty(), last, first, joined.place),
+        None => first,
+    }
 }
 
-/// Writes an attribute row.
-fn put_row<S: OctetSink>(doc: &Doc<'_>, a: u32, sink: &mut S) -> Put
-    requires { a < length doc.now }
-    ensures { Puts S.stands_for S.refusals S.makes sink.old sink.new (row_attribute doc.now a) result }
-{
-    put_attribute(doc.prefix_text(a), doc.local_name(a), doc.value(a), sink)
-}
-
-/// Writes in order the attributes of an element that are in the set, and those that are imported to it.
-fn put_in_order<S: OctetSink>(doc: &Doc<'_>, set: SetView<'_>, x: u32, sink: &mut S) -> Put
+/// The first attribute behind `last` among an element's own, those that are imported to it, and a joined `xml:base`.
+fn next_attribute(
+    doc: &Doc<'_>,
+    set: SetView<'_>,
+    method: Method<'_>,
+    xml: &[u32],
+    base: Option<Base<'_>>,
+    own: OwnRows,
+    x: u32,
+    last: Option<u32>,
+) -> Option<u32>
     requires here { x < length doc.now }
-    ensures { Puts S.stands_for S.refusals S.makes sink.old sink.new (flat_map (row_attribute doc.now) (in_order doc.now (filter (in_view set.entry) (attribute_rows doc.now x) ++ imported doc.now x))) result }
+    requires xml_are { xml.now ≡ xml_at doc.now (parent_of doc.now x) }
+    requires xml_fit { All (λ b. b < length doc.now) xml.now }
+    requires own { OwnRowsStand doc.now x own.first_attribute own.first_child }
+    requires base { BaseThere doc.now base }
+    requires last { IfSome last (λ b. b < length doc.now) }
+    ensures value { result ≡ best_of doc.now last None
+        (filter (is_own doc.now (in_view set.entry) (base_of base.entry)) (attribute_rows doc.now x)
+        ++ imported doc.now (rule_of method.entry) x ++ base_place (base_of base.entry)) }
+    ensures there { IfSome result (λ b. b < length doc.now) }
 {
+    let best = best_in_set(
+        doc,
+        set,
+        base,
+        x,
+        last,
+        own.first_attribute,
+        own.first_child,
+    );
+    let best = best_above(doc, method, xml, x, last, best);
+    best_base(doc, base, last, best)
+}
+
+/// Writes an attribute row, with the joined value where it stands for a joined `xml:base`.
+fn put_row<S: OctetSink>(doc: &Doc<'_>, base: Option<Base<'_>>, a: u32, sink: &mut S) -> Put
+    requires { a < length doc.now }
+    ensures { Puts S.stands_for S.refusals S.makes sink.old sink.new (row_attribute doc.now (base_of base.entry) a) result }
+{
+    let prefix = doc.prefix_text(a);
+    let local = doc.local_name(a);
+    match base {
+        Some(joined) if is_base(doc, a) => put_attribute_octets(prefix, local, joined.value, sink),
+        _ => put_attribute(prefix, local, doc.value(a), sink),
+    }
+}
+
+/// Writes in order the attributes of an element that are its own, those that are imported to it, and a joined `xml:base`.
+fn put_in_order<S: OctetSink>(
+    doc: &Doc<'_>,
+    set: SetView<'_>,
+    method: Method<'_>,
+    xml: &[u32],
+    base: Option<Base<'_>>,
+    x: u32,
+    sink: &mut S,
+) -> Put
+    requires here { x < length doc.now }
+    requires xml_are { xml.now ≡ xml_at doc.now (parent_of doc.now x) }
+    requires xml_fit { All (λ b. b < length doc.now) xml.now }
+    requires base { BaseThere doc.now base }
+    ensures { Puts S.stands_for S.refusals S.makes sink.old sink.new
+        (flat_map (row_attribute doc.now (base_of base.entry))
+        (in_order doc.now (filter (is_own doc.now (in_view set.entry) (base_of base.entry)) (attribute_rows doc.now x)
+        ++ imported doc.now (rule_of method.entry) x ++ base_place (base_of base.entry)))) result }
+{
+    let own = doc.own_rows(x);
     let mut last = None;
-    while let Some(a) = next_attribute(doc, set, x, last) {
-        if let Put::Refused = put_row(doc, a, sink) {
+    while let Some(a) = next_attribute(doc, set, method, xml, base, own, x, last) {
+        if let Put::Refused = put_row(doc, base, a, sink) {
             return Put::Refused;
         }
         last = Some(a);
@@ -287,12 +421,19 @@ fn put_in_order<S: OctetSink>(doc: &Doc<'_>, set: SetView<'_>, x: u32, sink: &mu
 }
 
 /// Writes an attribute row where it is in the set.
-fn put_row_in_set<S: OctetSink>(doc: &Doc<'_>, set: SetView<'_>, a: u32, sink: &mut S) -> Put
+fn put_row_in_set<S: OctetSink>(
+    doc: &Doc<'_>,
+    set: SetView<'_>,
+    base: Option<Base<'_>>,
+    a: u32,
+    sink: &mut S,
+) -> Put
     requires { a < length doc.now }
-    ensures { Puts S.stands_for S.refusals S.makes sink.old sink.new (cond (in_view set.entry a) (row_attribute doc.now a) []) result }
+    ensures { Puts S.stands_for S.refusals S.makes sink.old sink.new
+        (cond (in_view set.entry a) (row_attribute doc.now (base_of base.entry) a) []) result }
 {
     if set.contains(a) {
-        put_row(doc, a, sink)
+        put_row(doc, base, a, sink)
     } else {
         Put::Done
     }
@@ -302,15 +443,17 @@ fn put_row_in_set<S: OctetSink>(doc: &Doc<'_>, set: SetView<'_>, a: u32, sink: &
 fn put_rows_in_set<S: OctetSink>(
     doc: &Doc<'_>,
     set: SetView<'_>,
+    base: Option<Base<'_>>,
     from: u32,
     until: u32,
     sink: &mut S,
 ) -> Put
     requires { until ≤ length doc.now }
-    ensures { Puts S.stands_for S.refusals S.makes sink.old sink.new (flat_map (row_attribute doc.now) (filter (in_view set.entry) (range_with_len from (until - from)))) result }
+    ensures { Puts S.stands_for S.refusals S.makes sink.old sink.new
+        (flat_map (row_attribute doc.now (base_of base.entry)) (filter (in_view set.entry) (range_with_len from (until - from)))) result }
 {
     for a in from..until {
-        if let Put::Refused = put_row_in_set(doc, set, a, sink) {
+        if let Put::Refused = put_row_in_set(doc, set, base, a, sink) {
             return Put::Refused;
         }
     }
@@ -322,7 +465,7 @@ fn is_inclusive(method: Method<'_>) -> bool
     ensures { result ≡ is_inclusive (rule_of method.entry) }
 {
     match method {
-        Method::Canonical => true,
+        Method::Canonical | Method::Eleven => true,
         Method::Exclusive(_) => false,
     }
 }
@@ -345,7 +488,12 @@ fn parent(doc: &Doc<'_>, x: u32) -> u32
 }
 
 /// Whether attributes are imported to an element from above.
-fn imports_attributes(doc: &Doc<'_>, set: SetView<'_>, method: Method<'_>, x: u32) -> bool
+pub(crate) fn imports_attributes(
+    doc: &Doc<'_>,
+    set: SetView<'_>,
+    method: Method<'_>,
+    x: u32,
+) -> bool
     requires here { x < length doc.now }
     ensures { result ≡ imports_attributes doc.now (in_view set.entry) (rule_of method.entry) x }
 {
@@ -353,21 +501,52 @@ fn imports_attributes(doc: &Doc<'_>, set: SetView<'_>, method: Method<'_>, x: u3
     is_inclusive(method) && set.contains(x) && is_element(doc.kind(up)) && !set.contains(up)
 }
 
-/// Writes the attribute octets of an element.
+/// Whether an element writes other attributes than its own in the set, so that they are to be put in order.
+fn writes_others(
+    doc: &Doc<'_>,
+    set: SetView<'_>,
+    method: Method<'_>,
+    xml: &[u32],
+    base: Option<Base<'_>>,
+    x: u32,
+) -> bool
+    requires here { x < length doc.now }
+    requires xml_are { xml.now ≡ xml_at doc.now (parent_of doc.now x) }
+    ensures others { result ≡ true → imports_attributes doc.now (in_view set.entry) (rule_of method.entry) x ≡ true }
+    ensures own { result ≡ false → written_attributes doc.now (in_view set.entry) (rule_of method.entry) (base_of base.entry) x
+        ≡ filter (in_view set.entry) (attribute_rows doc.now x) }
+{
+    let _rows = doc.rows();
+    if !imports_attributes(doc, set, method, x) {
+        return false;
+    }
+    if base.is_some() {
+        return true;
+    }
+    !xml.is_empty()
+}
+
+/// Writes the attribute octets of an element; `base` is its joined `xml:base`.
 pub(crate) fn put_attributes<S: OctetSink>(
     doc: &Doc<'_>,
     set: SetView<'_>,
     method: Method<'_>,
+    stacks: &Stacks,
+    base: Option<Base<'_>>,
     x: u32,
     sink: &mut S,
 ) -> Put
     requires here { x < length doc.now }
-    ensures { Puts S.stands_for S.refusals S.makes sink.old sink.new (attributes_octets doc.now (in_view set.entry) (rule_of method.entry) x) result }
+    requires stacks { StacksAt doc.now (in_view set) (rule_of method) (parent_of doc.now x) stacks.now }
+    requires there { BaseThere doc.now base }
+    requires base { base_of base ≡ joined_base doc.now (in_view set) (rule_of method) x }
+    ensures { Puts S.stands_for S.refusals S.makes sink.old sink.new
+        (attributes_octets doc.now (in_view set.entry) (rule_of method.entry) x) result }
 {
-    if imports_attributes(doc, set, method, x) {
-        put_in_order(doc, set, x, sink)
+    if writes_others(doc, set, method, &stacks.xml, base, x) {
+        put_in_order(doc, set, method, &stacks.xml, base, x, sink)
     } else {
         let own = doc.own_rows(x);
-        put_rows_in_set(doc, set, own.first_attribute, own.first_child, sink)
+        put_rows_in_set(doc, set, base, own.first_attribute, own.first_child, sink)
     }
 }

@@ -1,14 +1,19 @@
-//! Writes the canonical form of a set of rows, row by row and in one walk, without memory.
+//! Writes the canonical form of a set of rows, row by row and in one walk, with all memory taken before.
 //!
-//! [`write_rows`] follows Canonical XML 1.0 or Exclusive XML Canonicalization 1.0. The two differ in which namespace rows
-//! are written (`namespaces`) and whether `xml:` attributes are imported (`attributes`); tags, texts, comments and
-//! instructions are the same (`rows`). The ancestors of a row are searched anew each time.
+//! A [`Renderer`] follows Canonical XML 1.0 or 1.1, or Exclusive XML Canonicalization 1.0. These differ in which namespace
+//! rows are written (`namespaces`), which `xml:` attributes are imported (`attributes`), and whether values of `xml:base` are
+//! joined (`bases`); tags, texts, comments and instructions are the same (`rows`). What the elements above a row mean for it
+//! stands on stacks (`stacks`).
 #![tactic(auto)]
 
 mod attributes;
+mod bases;
+mod names;
 mod namespaces;
+mod renderer;
 mod rows;
+mod stacks;
 mod walk;
 
 pub use namespaces::Method;
-pub use walk::write_rows;
+pub use renderer::{Renderer, write_once};

@@ -1,23 +1,29 @@
 //! The namespace octets of an element (Canonical XML 1.0 §2.3; Exclusive XML Canonicalization 1.0 §3).
-ghost use Rattle.std.specs.Prelude.{◌≡◌, ◌<◌, ◌≤◌, ◌+◌, ◌-◌, length, map, encode_utf8_all, IfSome};
+ghost use Rattle.std.specs.Prelude.{◌≡◌, ◌<◌, ◌≤◌, ◌+◌, ◌-◌, [], length, map, encode_utf8_all, IfSome};
 ghost use Rattle.std.specs.List.{list_any, flat_map, range_with_len};
 ghost use Rattle.std.specs.Str.{bytes_eq};
 ghost use Rattle.sig_base.specs.Puts.{Puts};
+ghost use Rattle.xml_doc.specs.Fields.{OwnRowsStand};
 ghost use Rattle.node_sets.specs.View.{in_view};
 ghost use Rattle.c14n_rows.specs.Rules.{rule_of};
-ghost use Rattle.c14n_text.specs.Namespaces.{follows_inclusive_rule, has_prefix, visibly_utilizes, renders, nearest, binds, has_binding, is_default, has_default, is_written, undeclares, declaration, row_declaration, undeclaration, namespace_octets};
+ghost use Rattle.c14n_rows.specs.Code.Stacks.{FrameAt, StacksAt};
+ghost use Rattle.c14n_text.specs.Rows.{parent_of};
+ghost use Rattle.c14n_text.specs.Namespaces.{follows_inclusive_rule, has_prefix, visibly_utilizes, renders, nearest, has_binding, is_default, has_default, is_written, undeclares, declaration, row_declaration, undeclaration, namespace_octets};
 
+use crate::stacks::{Frame, Stacks, frame_above, rendered_above};
 use c14n_text::Piece::{Plain, Value};
 use c14n_text::put_all;
 use node_sets::SetView;
 use sig_base::{OctetSink, PrefixList, Put};
-use xml_doc::Doc;
+use xml_doc::{Doc, OwnRows};
 
 /// The rule of a canonical form.
 #[derive(Clone, Copy)]
 pub enum Method<'p> {
     /// Canonical XML 1.0.
     Canonical,
+    /// Canonical XML 1.1.
+    Eleven,
     /// Exclusive XML Canonicalization 1.0, with its PrefixList.
     Exclusive(&'p PrefixList),
 }
@@ -44,7 +50,7 @@ pub(crate) fn follows_inclusive_rule(method: Method<'_>, prefix: &str) -> bool
     ensures { result ≡ follows_inclusive_rule (rule_of method.entry) prefix.now }
 {
     match method {
-        Method::Canonical => true,
+        Method::Canonical | Method::Eleven => true,
         Method::Exclusive(prefixes) => {
             if prefix.is_empty() {
                 is_listed(prefixes, "#default")
@@ -77,94 +83,37 @@ fn any_has_prefix(doc: &Doc<'_>, set: SetView<'_>, prefix: &str, from: u32, unti
 }
 
 /// Whether an element visibly utilizes a prefix (Exclusive XML Canonicalization 1.0 §1.1).
-fn visibly_utilizes(doc: &Doc<'_>, set: SetView<'_>, e: u32, prefix: &str) -> bool
-    requires { e < length doc.now }
+fn visibly_utilizes(doc: &Doc<'_>, set: SetView<'_>, own: OwnRows, e: u32, prefix: &str) -> bool
+    requires here { e < length doc.now }
+    requires own { OwnRowsStand doc.now e own.first_attribute own.first_child }
     ensures { result ≡ visibly_utilizes doc.now (in_view set.entry) e prefix.now }
 {
     if doc.prefix_text(e) == prefix {
         return true;
     }
-    let own = doc.own_rows(e);
     any_has_prefix(doc, set, prefix, own.first_attribute, own.first_child)
 }
 
 /// Whether an element is in the set and counts for a prefix: where the prefix doesn't follow the inclusive rule, by
 /// visibly utilizing it.
-fn renders(doc: &Doc<'_>, set: SetView<'_>, method: Method<'_>, prefix: &str, e: u32) -> bool
-    requires { e < length doc.now }
+pub(crate) fn renders(
+    doc: &Doc<'_>,
+    set: SetView<'_>,
+    method: Method<'_>,
+    own: OwnRows,
+    prefix: &str,
+    e: u32,
+) -> bool
+    requires here { e < length doc.now }
+    requires own { OwnRowsStand doc.now e own.first_attribute own.first_child }
     ensures { result ≡ renders doc.now (in_view set.entry) (rule_of method.entry) prefix.now e }
 {
     set.contains(e)
-        && (follows_inclusive_rule(method, prefix) || visibly_utilizes(doc, set, e, prefix))
-}
-
-/// The nearest such element above a row.
-fn nearest(doc: &Doc<'_>, set: SetView<'_>, method: Method<'_>, prefix: &str, x: u32) -> Option<u32>
-    requires here { x < length doc.now }
-    ensures value { result ≡ nearest doc.now (in_view set.entry) (rule_of method.entry) prefix.now x }
-    ensures there { IfSome result (λ e. e < length doc.now) }
-{
-    let _rows = doc.rows();
-    let mut up = doc.above(x);
-    while up != 0 {
-        if renders(doc, set, method, prefix, up) {
-            return Some(up);
-        }
-        up = doc.above(up);
-    }
-    None
-}
-
-/// Whether a namespace row is in the set and binds this prefix to this name.
-fn binds(doc: &Doc<'_>, set: SetView<'_>, prefix: &str, name: &str, z: u32) -> bool
-    requires { z < length doc.now }
-    ensures { result ≡ binds doc.now (in_view set.entry) prefix.now name.now z }
-{
-    set.contains(z) && doc.local_name(z) == prefix && doc.value(z) == name
-}
-
-/// Whether one of the namespace rows from `from` to before `until` does.
-fn any_binds(
-    doc: &Doc<'_>,
-    set: SetView<'_>,
-    prefix: &str,
-    name: &str,
-    from: u32,
-    until: u32,
-) -> bool
-    requires { until ≤ length doc.now }
-    ensures { result ≡ list_any (binds doc.now (in_view set.entry) prefix.now name.now) (range_with_len from (until - from)) }
-{
-    for z in from..until {
-        if binds(doc, set, prefix, name, z) {
-            return true;
-        }
-    }
-    false
-}
-
-/// Whether an element has such a namespace row.
-fn has_binding(
-    doc: &Doc<'_>,
-    set: SetView<'_>,
-    prefix: &str,
-    name: &str,
-    element: Option<u32>,
-) -> bool
-    requires { IfSome element (λ e. e < length doc.now) }
-    ensures { result ≡ has_binding doc.now (in_view set.entry) prefix.now name.now element }
-{
-    match element {
-        Some(e) => {
-            let own = doc.own_rows(e);
-            any_binds(doc, set, prefix, name, e + 1, own.first_attribute)
-        }
-        None => false,
-    }
+        && (follows_inclusive_rule(method, prefix) || visibly_utilizes(doc, set, own, e, prefix))
 }
 
 /// Whether a namespace row is in the set and is that of the default.
-fn is_default(doc: &Doc<'_>, set: SetView<'_>, z: u32) -> bool
+pub(crate) fn is_default(doc: &Doc<'_>, set: SetView<'_>, z: u32) -> bool
     requires { z < length doc.now }
     ensures { result ≡ is_default doc.now (in_view set.entry) z }
 {
@@ -198,34 +147,84 @@ fn has_default(doc: &Doc<'_>, set: SetView<'_>, element: Option<u32>) -> bool
     }
 }
 
+/// Whether the nearest element above that counts for a prefix binds it to this name, in the set.
+fn is_shown(
+    doc: &Doc<'_>,
+    set: SetView<'_>,
+    method: Method<'_>,
+    above: Frame<'_>,
+    x: u32,
+    prefix: &str,
+    name: &str,
+) -> bool
+    requires element { x < length doc.now }
+    requires frame { FrameAt doc.now (in_view set) (rule_of method) (parent_of doc.now x) above }
+    ensures { result ≡ has_binding doc.now (in_view set.entry) prefix.now name.now
+        (nearest doc.now (in_view set.entry) (rule_of method.entry) prefix.now x) }
+{
+    let _rows = doc.rows();
+    match rendered_above(doc, set, method, above, x, prefix) {
+        Some(z) => doc.value(z) == name,
+        None => false,
+    }
+}
+
+/// Whether the nearest element above that counts for the default has a default namespace row in the set.
+fn is_default_shown(
+    doc: &Doc<'_>,
+    set: SetView<'_>,
+    method: Method<'_>,
+    above: Frame<'_>,
+    x: u32,
+) -> bool
+    requires element { x < length doc.now }
+    requires frame { FrameAt doc.now (in_view set) (rule_of method) (parent_of doc.now x) above }
+    ensures { result ≡ has_default doc.now (in_view set.entry) (nearest doc.now (in_view set.entry) (rule_of method.entry) [] x) }
+{
+    above.default.is_some()
+}
+
 /// Whether a namespace row of an element is written.
-fn is_written(doc: &Doc<'_>, set: SetView<'_>, method: Method<'_>, x: u32, y: u32) -> bool
+fn is_written(
+    doc: &Doc<'_>,
+    set: SetView<'_>,
+    method: Method<'_>,
+    above: Frame<'_>,
+    own: OwnRows,
+    x: u32,
+    y: u32,
+) -> bool
     requires element { x < length doc.now }
     requires row { y < length doc.now }
+    requires own { OwnRowsStand doc.now x own.first_attribute own.first_child }
+    requires frame { FrameAt doc.now (in_view set) (rule_of method) (parent_of doc.now x) above }
     ensures { result ≡ is_written doc.now (in_view set.entry) (rule_of method.entry) x y }
 {
     let prefix = doc.local_name(y);
     set.contains(y)
         && prefix != "xml"
         && (follows_inclusive_rule(method, prefix)
-            || (set.contains(x) && visibly_utilizes(doc, set, x, prefix)))
-        && !has_binding(
-            doc,
-            set,
-            prefix,
-            doc.value(y),
-            nearest(doc, set, method, prefix, x),
-        )
+            || (set.contains(x) && visibly_utilizes(doc, set, own, x, prefix)))
+        && !is_shown(doc, set, method, above, x, prefix, doc.value(y))
 }
 
 /// Whether an element writes `xmlns=""`.
-fn undeclares(doc: &Doc<'_>, set: SetView<'_>, method: Method<'_>, x: u32) -> bool
+fn undeclares(
+    doc: &Doc<'_>,
+    set: SetView<'_>,
+    method: Method<'_>,
+    above: Frame<'_>,
+    own: OwnRows,
+    x: u32,
+) -> bool
     requires element { x < length doc.now }
+    requires own { OwnRowsStand doc.now x own.first_attribute own.first_child }
+    requires frame { FrameAt doc.now (in_view set) (rule_of method) (parent_of doc.now x) above }
     ensures { result ≡ undeclares doc.now (in_view set.entry) (rule_of method.entry) x }
 {
-    renders(doc, set, method, "", x)
+    renders(doc, set, method, own, "", x)
         && !has_default(doc, set, Some(x))
-        && has_default(doc, set, nearest(doc, set, method, "", x))
+        && is_default_shown(doc, set, method, above, x)
 }
 
 /// Writes a namespace declaration.
@@ -253,15 +252,20 @@ fn put_row<S: OctetSink>(
     doc: &Doc<'_>,
     set: SetView<'_>,
     method: Method<'_>,
+    above: Frame<'_>,
+    own: OwnRows,
     x: u32,
     y: u32,
     sink: &mut S,
 ) -> Put
     requires element { x < length doc.now }
     requires row { y < length doc.now }
-    ensures { Puts S.stands_for S.refusals S.makes sink.old sink.new (row_declaration doc.now (in_view set.entry) (rule_of method.entry) x y) result }
+    requires own { OwnRowsStand doc.now x own.first_attribute own.first_child }
+    requires frame { FrameAt doc.now (in_view set) (rule_of method) (parent_of doc.now x) above }
+    ensures { Puts S.stands_for S.refusals S.makes sink.old sink.new
+        (row_declaration doc.now (in_view set.entry) (rule_of method.entry) x y) result }
 {
-    if is_written(doc, set, method, x, y) {
+    if is_written(doc, set, method, above, own, x, y) {
         put_declaration(doc.local_name(y), doc.value(y), sink)
     } else {
         Put::Done
@@ -273,13 +277,18 @@ fn put_undeclaration<S: OctetSink>(
     doc: &Doc<'_>,
     set: SetView<'_>,
     method: Method<'_>,
+    above: Frame<'_>,
+    own: OwnRows,
     x: u32,
     sink: &mut S,
 ) -> Put
     requires element { x < length doc.now }
-    ensures { Puts S.stands_for S.refusals S.makes sink.old sink.new (undeclaration doc.now (in_view set.entry) (rule_of method.entry) x) result }
+    requires own { OwnRowsStand doc.now x own.first_attribute own.first_child }
+    requires frame { FrameAt doc.now (in_view set) (rule_of method) (parent_of doc.now x) above }
+    ensures { Puts S.stands_for S.refusals S.makes sink.old sink.new (undeclaration doc.now (in_view set.entry) (rule_of method.entry) x)
+        result }
 {
-    if undeclares(doc, set, method, x) {
+    if undeclares(doc, set, method, above, own, x) {
         put_all(&[Plain(" xmlns=\"\"")], sink)
     } else {
         Put::Done
@@ -291,6 +300,8 @@ fn put_rows<S: OctetSink>(
     doc: &Doc<'_>,
     set: SetView<'_>,
     method: Method<'_>,
+    above: Frame<'_>,
+    own: OwnRows,
     x: u32,
     from: u32,
     until: u32,
@@ -298,10 +309,13 @@ fn put_rows<S: OctetSink>(
 ) -> Put
     requires element { x < length doc.now }
     requires rows { until ≤ length doc.now }
-    ensures { Puts S.stands_for S.refusals S.makes sink.old sink.new (flat_map (row_declaration doc.now (in_view set.entry) (rule_of method.entry) x) (range_with_len from (until - from))) result }
+    requires own { OwnRowsStand doc.now x own.first_attribute own.first_child }
+    requires frame { FrameAt doc.now (in_view set) (rule_of method) (parent_of doc.now x) above }
+    ensures { Puts S.stands_for S.refusals S.makes sink.old sink.new
+        (flat_map (row_declaration doc.now (in_view set.entry) (rule_of method.entry) x) (range_with_len from (until - from))) result }
 {
     for y in from..until {
-        if let Put::Refused = put_row(doc, set, method, x, y, sink) {
+        if let Put::Refused = put_row(doc, set, method, above, own, x, y, sink) {
             return Put::Refused;
         }
     }
@@ -313,15 +327,29 @@ pub(crate) fn put_namespaces<S: OctetSink>(
     doc: &Doc<'_>,
     set: SetView<'_>,
     method: Method<'_>,
+    stacks: &Stacks,
     x: u32,
     sink: &mut S,
 ) -> Put
     requires element { x < length doc.now }
-    ensures { Puts S.stands_for S.refusals S.makes sink.old sink.new (namespace_octets doc.now (in_view set.entry) (rule_of method.entry) x) result }
+    requires stacks { StacksAt doc.now (in_view set) (rule_of method) (parent_of doc.now x) stacks.now }
+    ensures { Puts S.stands_for S.refusals S.makes sink.old sink.new
+        (namespace_octets doc.now (in_view set.entry) (rule_of method.entry) x) result }
 {
     let own = doc.own_rows(x);
-    if let Put::Refused = put_undeclaration(doc, set, method, x, sink) {
+    let above = frame_above(doc, set, method, &stacks.slots, x);
+    if let Put::Refused = put_undeclaration(doc, set, method, above, own, x, sink) {
         return Put::Refused;
     }
-    put_rows(doc, set, method, x, x + 1, own.first_attribute, sink)
+    put_rows(
+        doc,
+        set,
+        method,
+        above,
+        own,
+        x,
+        x + 1,
+        own.first_attribute,
+        sink,
+    )
 }

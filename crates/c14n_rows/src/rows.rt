@@ -4,38 +4,23 @@ ghost use Rattle.sig_base.specs.Puts.{Puts};
 ghost use Rattle.xml_doc.specs.Shape.{row_at};
 ghost use Rattle.node_sets.specs.View.{in_view};
 ghost use Rattle.c14n_rows.specs.Rules.{rule_of};
+ghost use Rattle.c14n_rows.specs.Code.Stacks.{StacksAt};
+ghost use Rattle.c14n_text.specs.Rows.{parent_of};
 ghost use Rattle.c14n_text.specs.Escapes.{pi_octets, qname};
 ghost use Rattle.c14n_text.specs.Namespaces.{namespace_octets};
-ghost use Rattle.c14n_text.specs.Attributes.{attributes_octets};
-ghost use Rattle.c14n_text.specs.Canon.{is_top_element, document_element, is_before_element, with_line_feed, comment_octets, start_tag, end_tag, opening, closing};
+ghost use Rattle.c14n_text.specs.Bases.{attributes_octets, joined_base};
+ghost use Rattle.c14n_rows.specs.Code.Joined.{BaseThere, base_of};
+ghost use Rattle.c14n_text.specs.Canon.{document_element, is_before_element, with_line_feed, comment_octets, start_tag, end_tag, opening, closing};
 
 use crate::attributes::{is_element, put_attributes};
+use crate::bases::Base;
 use crate::namespaces::{Method, put_namespaces};
+use crate::stacks::Stacks;
 use c14n_text::Piece::Plain;
 use c14n_text::{put_all, put_pi, put_text};
 use node_sets::SetView;
 use sig_base::{OctetSink, Put};
 use xml_doc::{Doc, Kind};
-
-/// Whether a row is an element whose parent is the root.
-fn is_top_element(doc: &Doc<'_>, y: u32) -> bool
-    requires { y < length doc.now }
-    ensures { result ≡ is_top_element doc.now y }
-{
-    is_element(doc.kind(y)) && doc.above(y) == 0
-}
-
-/// The document element.
-pub(crate) fn document_element(doc: &Doc<'_>) -> Option<u32>
-    ensures { result ≡ document_element doc.now }
-{
-    for y in 1..doc.rows() {
-        if is_top_element(doc, y) {
-            return Some(y);
-        }
-    }
-    None
-}
 
 /// Whether a row stands before the document element.
 fn is_before_element(x: u32, element: Option<u32>) -> bool
@@ -51,7 +36,8 @@ fn is_before_element(x: u32, element: Option<u32>) -> bool
 fn put_comment<S: OctetSink>(doc: &Doc<'_>, element: Option<u32>, x: u32, sink: &mut S) -> Put
     requires here { x < length doc.now }
     requires element { element ≡ document_element doc.now }
-    ensures { Puts S.stands_for S.refusals S.makes sink.old sink.new (with_line_feed doc.now x (comment_octets (row_at doc.now x).value)) result }
+    ensures { Puts S.stands_for S.refusals S.makes sink.old sink.new (with_line_feed doc.now x (comment_octets (row_at doc.now x).value))
+        result }
 {
     let text = doc.value(x);
     if doc.above(x) != 0 {
@@ -73,7 +59,8 @@ fn put_line_feed<S: OctetSink>(sink: &mut S) -> Put
 /// Writes an instruction by itself.
 fn put_instruction_alone<S: OctetSink>(doc: &Doc<'_>, x: u32, sink: &mut S) -> Put
     requires { x < length doc.now }
-    ensures { Puts S.stands_for S.refusals S.makes sink.old sink.new (pi_octets (row_at doc.now x).local_name (row_at doc.now x).value) result }
+    ensures { Puts S.stands_for S.refusals S.makes sink.old sink.new (pi_octets (row_at doc.now x).local_name (row_at doc.now x).value)
+        result }
 {
     put_pi(doc.local_name(x), doc.value(x), sink)
 }
@@ -81,7 +68,8 @@ fn put_instruction_alone<S: OctetSink>(doc: &Doc<'_>, x: u32, sink: &mut S) -> P
 /// Writes an instruction and a line feed behind it.
 fn put_instruction_first<S: OctetSink>(doc: &Doc<'_>, x: u32, sink: &mut S) -> Put
     requires { x < length doc.now }
-    ensures { Puts S.stands_for S.refusals S.makes sink.old sink.new (pi_octets (row_at doc.now x).local_name (row_at doc.now x).value ++ codes "\n") result }
+    ensures { Puts S.stands_for S.refusals S.makes sink.old sink.new
+        (pi_octets (row_at doc.now x).local_name (row_at doc.now x).value ++ codes "\n") result }
 {
     if let Put::Refused = put_instruction_alone(doc, x, sink) {
         return Put::Refused;
@@ -92,7 +80,8 @@ fn put_instruction_first<S: OctetSink>(doc: &Doc<'_>, x: u32, sink: &mut S) -> P
 /// Writes an instruction and a line feed before it.
 fn put_instruction_last<S: OctetSink>(doc: &Doc<'_>, x: u32, sink: &mut S) -> Put
     requires { x < length doc.now }
-    ensures { Puts S.stands_for S.refusals S.makes sink.old sink.new (codes "\n" ++ pi_octets (row_at doc.now x).local_name (row_at doc.now x).value) result }
+    ensures { Puts S.stands_for S.refusals S.makes sink.old sink.new
+        (codes "\n" ++ pi_octets (row_at doc.now x).local_name (row_at doc.now x).value) result }
 {
     if let Put::Refused = put_line_feed(sink) {
         return Put::Refused;
@@ -104,7 +93,8 @@ fn put_instruction_last<S: OctetSink>(doc: &Doc<'_>, x: u32, sink: &mut S) -> Pu
 fn put_instruction<S: OctetSink>(doc: &Doc<'_>, element: Option<u32>, x: u32, sink: &mut S) -> Put
     requires here { x < length doc.now }
     requires element { element ≡ document_element doc.now }
-    ensures { Puts S.stands_for S.refusals S.makes sink.old sink.new (with_line_feed doc.now x (pi_octets (row_at doc.now x).local_name (row_at doc.now x).value)) result }
+    ensures { Puts S.stands_for S.refusals S.makes sink.old sink.new
+        (with_line_feed doc.now x (pi_octets (row_at doc.now x).local_name (row_at doc.now x).value)) result }
 {
     if doc.above(x) != 0 {
         put_instruction_alone(doc, x, sink)
@@ -144,7 +134,8 @@ fn put_name<'a, S: OctetSink>(
 /// Writes the beginning of a start tag.
 fn put_tag_name<S: OctetSink>(doc: &Doc<'_>, x: u32, sink: &mut S) -> Put
     requires { x < length doc.now }
-    ensures { Puts S.stands_for S.refusals S.makes sink.old sink.new (codes "<" ++ qname (row_at doc.now x).prefix_text (row_at doc.now x).local_name ++ []) result }
+    ensures { Puts S.stands_for S.refusals S.makes sink.old sink.new
+        (codes "<" ++ qname (row_at doc.now x).prefix_text (row_at doc.now x).local_name ++ []) result }
 {
     put_name("<", doc.prefix_text(x), doc.local_name(x), "", sink)
 }
@@ -162,16 +153,23 @@ fn put_fields<S: OctetSink>(
     doc: &Doc<'_>,
     set: SetView<'_>,
     method: Method<'_>,
+    stacks: &Stacks,
+    base: Option<Base<'_>>,
     x: u32,
     sink: &mut S,
 ) -> Put
     requires here { x < length doc.now }
-    ensures { Puts S.stands_for S.refusals S.makes sink.old sink.new (namespace_octets doc.now (in_view set.entry) (rule_of method.entry) x ++ attributes_octets doc.now (in_view set.entry) (rule_of method.entry) x) result }
+    requires stacks { StacksAt doc.now (in_view set) (rule_of method) (parent_of doc.now x) stacks.now }
+    requires there { BaseThere doc.now base }
+    requires base { base_of base ≡ joined_base doc.now (in_view set) (rule_of method) x }
+    ensures { Puts S.stands_for S.refusals S.makes sink.old sink.new
+        (namespace_octets doc.now (in_view set.entry) (rule_of method.entry) x
+        ++ attributes_octets doc.now (in_view set.entry) (rule_of method.entry) x) result }
 {
-    if let Put::Refused = put_namespaces(doc, set, method, x, sink) {
+    if let Put::Refused = put_namespaces(doc, set, method, stacks, x, sink) {
         return Put::Refused;
     }
-    put_attributes(doc, set, method, x, sink)
+    put_attributes(doc, set, method, stacks, base, x, sink)
 }
 
 /// Writes the start tag of an element.
@@ -179,26 +177,34 @@ fn put_start_tag<S: OctetSink>(
     doc: &Doc<'_>,
     set: SetView<'_>,
     method: Method<'_>,
+    stacks: &Stacks,
+    base: Option<Base<'_>>,
     x: u32,
     sink: &mut S,
 ) -> Put
     requires here { x < length doc.now }
-    ensures { Puts S.stands_for S.refusals S.makes sink.old sink.new (start_tag doc.now (in_view set.entry) (rule_of method.entry) x) result }
+    requires stacks { StacksAt doc.now (in_view set) (rule_of method) (parent_of doc.now x) stacks.now }
+    requires there { BaseThere doc.now base }
+    requires base { base_of base ≡ joined_base doc.now (in_view set) (rule_of method) x }
+    ensures { Puts S.stands_for S.refusals S.makes sink.old sink.new (start_tag doc.now (in_view set.entry) (rule_of method.entry) x)
+        result }
 {
     if let Put::Refused = put_tag_name(doc, x, sink) {
         return Put::Refused;
     }
-    if let Put::Refused = put_fields(doc, set, method, x, sink) {
+    if let Put::Refused = put_fields(doc, set, method, stacks, base, x, sink) {
         return Put::Refused;
     }
     put_all(&[Plain(">")], sink)
 }
 
-/// Writes what stands before a row's children; `element` is the document element.
+/// Writes what stands before a row's children; `element` is the document element, and `base` the row's joined `xml:base`.
 pub(crate) fn put_opening<S: OctetSink>(
     doc: &Doc<'_>,
     set: SetView<'_>,
     method: Method<'_>,
+    stacks: &Stacks,
+    base: Option<Base<'_>>,
     comments: bool,
     element: Option<u32>,
     x: u32,
@@ -206,16 +212,20 @@ pub(crate) fn put_opening<S: OctetSink>(
 ) -> Put
     requires here { x < length doc.now }
     requires element { element ≡ document_element doc.now }
-    ensures { Puts S.stands_for S.refusals S.makes sink.old sink.new (opening doc.now (in_view set.entry) (rule_of method.entry) comments x) result }
+    requires stacks { StacksAt doc.now (in_view set) (rule_of method) (parent_of doc.now x) stacks.now }
+    requires there { BaseThere doc.now base }
+    requires base { base_of base ≡ joined_base doc.now (in_view set) (rule_of method) x }
+    ensures { Puts S.stands_for S.refusals S.makes sink.old sink.new
+        (opening doc.now (in_view set.entry) (rule_of method.entry) comments x) result }
 {
     let is_in = set.contains(x);
     match doc.kind(x) {
         Kind::Root | Kind::Namespace | Kind::Attribute => Put::Done,
         Kind::Element => {
             if is_in {
-                put_start_tag(doc, set, method, x, sink)
+                put_start_tag(doc, set, method, stacks, base, x, sink)
             } else {
-                put_fields(doc, set, method, x, sink)
+                put_fields(doc, set, method, stacks, base, x, sink)
             }
         }
         Kind::Text => {

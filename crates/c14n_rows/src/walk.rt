@@ -1,15 +1,19 @@
 //! The walk over the rows, in document order.
-ghost use Rattle.std.specs.Prelude.{◌≡◌, ◌<◌, ◌≤◌, ℕ, List, [], length};
+ghost use Rattle.std.specs.Prelude.{◌≡◌, ◌<◌, ◌≤◌, ℕ, List, [], length, MatchOption};
 ghost use Rattle.sig_base.specs.Puts.{Puts};
 ghost use Rattle.node_sets.specs.View.{in_view, rows_of};
 ghost use Rattle.c14n_rows.specs.Rules.{rule_of};
-ghost use Rattle.c14n_text.specs.Rows.{is_child};
-ghost use Rattle.c14n_text.specs.Quiet.{IsQuiet, bearer};
-ghost use Rattle.c14n_text.specs.Canon.{canon, opening, closing};
-ghost use Rattle.c14n_text.specs.Progress.{Progress, Closed, whole};
+ghost use Rattle.c14n_rows.specs.Stacks.{IsEmpty, RoomAt, RoomIn};
+ghost use Rattle.c14n_rows.specs.Code.Stacks.{IsNowhere, IsWalked, Keeps, OnDone, StacksAt};
+ghost use Rattle.c14n_text.specs.Rows.{is_child, parent_of};
+ghost use Rattle.c14n_text.specs.Code.Quiet.{IsQuiet, bearer};
+ghost use Rattle.c14n_text.specs.Canon.{canon, closing, document_element, opening};
+ghost use Rattle.c14n_text.specs.Code.Progress.{Progress, Closed, whole};
 
+use crate::bases::{joined_base, lend};
 use crate::namespaces::Method;
-use crate::rows::{document_element, put_closing, put_opening};
+use crate::rows::{put_closing, put_opening};
+use crate::stacks::{Stacks, enter, enter_all, leave};
 use node_sets::SetView;
 use sig_base::{OctetSink, Put};
 use xml_doc::{Doc, Kind};
@@ -37,12 +41,18 @@ fn bearer(doc: &Doc<'_>, i: u32) -> u32
 fn close_ended<S: OctetSink>(
     doc: &Doc<'_>,
     set: SetView<'_>,
+    method: Method<'_>,
+    stacks: &mut Stacks,
     opened: &mut u32,
     next: u32,
     sink: &mut S,
 ) -> Put
     requires here { opened.old < length doc.now }
-    ensures walked { (before : _) (opens : ℕ → List ℕ) → Progress doc.now opens (closing doc.now (in_view set.entry)) S.stands_for S.refusals S.makes before sink.old opened.old next
+    requires stacks { StacksAt doc.now (in_view set) (rule_of method) opened.old stacks.old }
+    ensures stacks { OnDone result (StacksAt doc.now (in_view set.entry) (rule_of method.entry) opened.new stacks.new) }
+    ensures kept { Keeps stacks.old stacks.new }
+    ensures walked { (before : _) (opens : ℕ → List ℕ)
+        → Progress doc.now opens (closing doc.now (in_view set.entry)) S.stands_for S.refusals S.makes before sink.old opened.old next
         → Closed doc.now opens (closing doc.now (in_view set.entry)) S.stands_for S.refusals S.makes before sink.new opened.new next result }
 {
     let _rows = doc.rows();
@@ -50,8 +60,39 @@ fn close_ended<S: OctetSink>(
         if let Put::Refused = put_closing(doc, set, *opened, sink) {
             return Put::Refused;
         }
+        leave(doc, set, method, stacks, *opened);
         *opened = doc.above(*opened);
     }
+    Put::Done
+}
+
+/// Begins a row; `element` is the document element.
+fn open_row<S: OctetSink>(
+    doc: &Doc<'_>,
+    set: SetView<'_>,
+    method: Method<'_>,
+    stacks: &mut Stacks,
+    comments: bool,
+    element: Option<u32>,
+    x: u32,
+    sink: &mut S,
+) -> Put
+    requires below { 0 < x }
+    requires here { x < length doc.now }
+    requires element { element ≡ document_element doc.now }
+    requires stacks { StacksAt doc.now (in_view set) (rule_of method) (parent_of doc.now x) stacks.old }
+    requires room { RoomAt doc.now x stacks.old }
+    ensures puts { Puts S.stands_for S.refusals S.makes sink.old sink.new
+        (opening doc.now (in_view set.entry) (rule_of method.entry) comments x) result }
+    ensures stacks { OnDone result (StacksAt doc.now (in_view set.entry) (rule_of method.entry) x stacks.new) }
+    ensures kept { Keeps stacks.old stacks.new }
+{
+    let found = joined_base(doc, set, method, stacks, x);
+    let base = lend(found, &stacks.joining);
+    if let Put::Refused = put_opening(doc, set, method, stacks, base, comments, element, x, sink) {
+        return Put::Refused;
+    }
+    enter(doc, set, method, stacks, x);
     Put::Done
 }
 
@@ -64,7 +105,8 @@ fn close_all<S: OctetSink>(
     sink: &mut S,
 ) -> Put
     requires here { innermost < length doc.now }
-    ensures walked { (before : _) (opens : ℕ → List ℕ) → ((x : ℕ) → until ≤ x → opens x ≡ []) → ((x : ℕ) → until ≤ x → closing doc.now (in_view set.entry) x ≡ [])
+    ensures walked { (before : _) (opens : ℕ → List ℕ) → ((x : ℕ) → until ≤ x → opens x ≡ [])
+        → ((x : ℕ) → until ≤ x → closing doc.now (in_view set.entry) x ≡ [])
         → Progress doc.now opens (closing doc.now (in_view set.entry)) S.stands_for S.refusals S.makes before sink.old innermost until
         → Puts S.stands_for S.refusals S.makes before sink.new (whole doc.now opens (closing doc.now (in_view set.entry))) result }
 {
@@ -84,27 +126,34 @@ fn write_range<S: OctetSink>(
     doc: &Doc<'_>,
     set: SetView<'_>,
     method: Method<'_>,
+    stacks: &mut Stacks,
     comments: bool,
     start: u32,
     until: u32,
     sink: &mut S,
 ) -> Put
+    requires stacks { StacksAt doc.now (in_view set) (rule_of method) (parent_of doc.now start) stacks.old }
+    requires room { RoomIn doc.now start until stacks.old }
     requires behind_root { 0 < start }
     requires ordered { start < until }
     requires within { until ≤ length doc.now }
     requires quiet_before { (x : ℕ) → x < start → IsQuiet doc.now (in_view set) x }
     requires quiet_behind { (x : ℕ) → until ≤ x → IsQuiet doc.now (in_view set) x }
-    ensures { Puts S.stands_for S.refusals S.makes sink.old sink.new (canon (rule_of method.entry) comments doc.now (in_view set.entry)) result }
+    ensures puts { Puts S.stands_for S.refusals S.makes sink.old sink.new
+        (canon (rule_of method.entry) comments doc.now (in_view set.entry)) result }
+    ensures kept { Keeps stacks.old stacks.new }
 {
     let _rows = doc.rows();
-    let element = document_element(doc);
+    let element = doc.document_element();
     let mut opened = doc.above(start);
     for next in start..until {
-        if let Put::Refused = close_ended(doc, set, &mut opened, next, sink) {
+        if let Put::Refused = close_ended(doc, set, method, stacks, &mut opened, next, sink) {
             return Put::Refused;
         }
         if is_child(doc, next) {
-            if let Put::Refused = put_opening(doc, set, method, comments, element, next, sink) {
+            if let Put::Refused = open_row(
+                doc, set, method, stacks, comments, element, next, sink,
+            ) {
                 return Put::Refused;
             }
             opened = next;
@@ -113,15 +162,20 @@ fn write_range<S: OctetSink>(
     close_all(doc, set, opened, until, sink)
 }
 
-/// Writes the canonical form of a set, with comments or without. The walk goes over the range that has the set's rows,
-/// and besides it looks at the elements above each row alone: a subtree doesn't cost the whole document.
-pub fn write_rows<S: OctetSink>(
-    set: SetView<'_>,
-    method: Method<'_>,
-    comments: bool,
-    sink: &mut S,
-) -> Put
-    ensures { Puts S.stands_for S.refusals S.makes sink.old sink.new (canon (rule_of method.entry) comments (rows_of set.entry) (in_view set.entry)) result }
+/// The rows over which the walk for a set goes.
+#[derive(Clone, Copy)]
+pub(crate) struct Walked {
+    /// The first.
+    pub start: u32,
+    /// The one behind the last.
+    pub until: u32,
+}
+
+/// The range that has the set's rows, and the elements whose namespace rows or attribute rows they are; none where no row
+/// writes anything.
+pub(crate) fn walked_range(set: SetView<'_>) -> Option<Walked>
+    ensures { MatchOption result (IsNowhere (rows_of set.entry) (in_view set.entry))
+        (λ range. IsWalked (rows_of set.entry) (in_view set.entry) range.start range.until) }
 {
     let doc = set.doc();
     let span = set.span();
@@ -129,8 +183,81 @@ pub fn write_rows<S: OctetSink>(
     let from = span.from.max(1);
     if from < span.until {
         let start = bearer(doc, from);
-        write_range(doc, set, method, comments, start, span.until, sink)
+        Some(Walked {
+            start,
+            until: span.until,
+        })
     } else {
-        Put::Done
+        None
+    }
+}
+
+/// Writes the canonical form of a set, with comments or without, on stacks that are empty and have room. The walk goes
+/// over its range, and besides it looks at the elements above the first row of this alone: a subtree doesn't cost the whole
+/// document.
+pub(crate) fn write_walked<S: OctetSink>(
+    doc: &Doc<'_>,
+    set: SetView<'_>,
+    method: Method<'_>,
+    stacks: &mut Stacks,
+    comments: bool,
+    range: Walked,
+    sink: &mut S,
+) -> Put
+    requires walked { IsWalked doc.now (in_view set) range.start range.until }
+    requires empty { IsEmpty stacks.old }
+    requires room { RoomIn doc.now range.start range.until stacks.old }
+    ensures puts { Puts S.stands_for S.refusals S.makes sink.old sink.new
+        (canon (rule_of method.entry) comments doc.now (in_view set.entry)) result }
+    ensures kept { Keeps stacks.old stacks.new }
+{
+    let _rows = doc.rows();
+    enter_all(doc, set, method, stacks, doc.above(range.start));
+    write_range(
+        doc,
+        set,
+        method,
+        stacks,
+        comments,
+        range.start,
+        range.until,
+        sink,
+    )
+}
+
+/// Writes the canonical form of a set of whose rows none writes anything: there is nothing to write.
+pub(crate) fn write_nothing<S: OctetSink>(
+    doc: &Doc<'_>,
+    set: SetView<'_>,
+    method: Method<'_>,
+    comments: bool,
+    sink: &mut S,
+) -> Put
+    requires { IsNowhere doc.now (in_view set) }
+    ensures { Puts S.stands_for S.refusals S.makes sink.old sink.new (canon (rule_of method.entry) comments doc.now (in_view set.entry))
+        result }
+{
+    let _rows = doc.rows();
+    Put::Done
+}
+
+/// Writes the canonical form of a set, with comments or without, on stacks that are empty and have room for each row.
+pub(crate) fn write_rows<S: OctetSink>(
+    set: SetView<'_>,
+    method: Method<'_>,
+    stacks: &mut Stacks,
+    comments: bool,
+    sink: &mut S,
+) -> Put
+    requires empty { IsEmpty stacks.old }
+    requires room { RoomIn (rows_of set) 1 (length (rows_of set)) stacks.old }
+    ensures puts { Puts S.stands_for S.refusals S.makes sink.old sink.new
+        (canon (rule_of method.entry) comments (rows_of set.entry) (in_view set.entry)) result }
+    ensures kept { Keeps stacks.old stacks.new }
+{
+    let doc = set.doc();
+    match walked_range(set) {
+        None => write_nothing(doc, set, method, comments, sink),
+        Some(range) => write_walked(doc, set, method, stacks, comments, range, sink),
     }
 }

@@ -1,5 +1,5 @@
 -- Rows that write nothing, since neither they nor their namespace rows and attribute rows are in the set.
-use Rattle.std.proofs.Common.{◌≡◌, ℕ, ◌+◌, ◌-◌, ◌<◌, ◌≤◌, Bool, true, false, not, if◌then◌else◌, cond, ◌&&◌, ◌==◌, List, [], ◌∷◌, ◌++◌, length, zero, suc, refl, sym, ap, ◌∙◌, arith, ◌⊎◌, inl, inr}
+use Rattle.std.proofs.Common.{◌≡◌, Option, ℕ, ◌+◌, ◌-◌, ◌<◌, ◌≤◌, Bool, true, false, not, if◌then◌else◌, cond, ◌&&◌, ◌==◌, List, [], ◌∷◌, ◌++◌, length, zero, suc, refl, sym, ap, ◌∙◌, arith, ◌⊎◌, inl, inr}
 use Rattle.std.specs.List.{flat_map, filter, range_with_len}
 use Rattle.std.proofs.lemmas.Bool.{cases_lt, cases_eq, false≢true, eqb-true, and_parts, and_right}
 use Rattle.xml_doc.specs.declared.row.Kind.{Kind}
@@ -10,9 +10,10 @@ use Rattle.xml_doc.specs.Shape.{row_at, IsWellShaped}
 use Rattle.xml_doc.specs.Fields.{is_namespace_of, is_attribute_of, namespace_rows, attribute_rows}
 use Rattle.c14n_text.specs.Rows.{kind_of, parent_of, is_child}
 use Rattle.c14n_text.specs.Namespaces.{Rule, undeclaration, row_declaration, namespace_octets}
-use Rattle.c14n_text.specs.Attributes.{is_inclusive, imports_attributes, in_order, imported, row_attribute, written_attributes, attributes_octets}
+use Rattle.c14n_text.specs.Attributes.{is_inclusive, imports_attributes, in_order, imported}
+use Rattle.c14n_text.specs.Bases.{is_own, base_place, joined_base, row_attribute, written_attributes, attributes_octets}
 use Rattle.c14n_text.specs.Canon.{start_tag, opening_of, closing_of, opening, closing}
-use Rattle.c14n_text.specs.Quiet.{IsQuiet, bearer}
+use Rattle.c14n_text.specs.Code.Quiet.{IsQuiet, bearer}
 use Rattle.c14n_text.proofs.QuietLemmas.{flat_map-nothing}
 
 -- numbers that pass one test, and none of them another
@@ -75,14 +76,15 @@ module _ (rows : List RowOf) (w : IsWellShaped rows) (set : ℕ → Bool) where
         ap (λ (t : List ℕ). t ++ flat_map (row_declaration rows set rule x) (namespace_rows rows x)) (no_undeclaration out)
         ∙ flat_map-nothing (row_declaration rows set rule x) (is_namespace_of rows x) 1 (length rows - 1) (λ (y : ℕ) ge lt passes. no_declaration y (own_namespace x y quiet ge lt passes))
 
-    none_written : set x ≡ false → written_attributes rows set rule x ≡ filter set (attribute_rows rows x)
-    none_written out =
+    none_written : (joined : Option (ℕ × List ℕ)) → set x ≡ false → written_attributes rows set rule joined x ≡ filter set (attribute_rows rows x)
+    none_written joined out =
         let taken : imports_attributes rows set rule x ≡ false = ap (λ t. t && is_element (kind_of rows (parent_of rows x)) && not (set (parent_of rows x))) (and_right (is_inclusive rule) (set x) out) in
-        ap (λ t. if t then in_order rows (filter set (attribute_rows rows x) ++ imported rows x) else filter set (attribute_rows rows x)) taken
+        ap (λ t. if t then in_order rows (filter (is_own rows set joined) (attribute_rows rows x) ++ imported rows rule x ++ base_place joined) else filter set (attribute_rows rows x)) taken
 
     no_attributes : set x ≡ false → attributes_octets rows set rule x ≡ []
     no_attributes out =
-        ap (flat_map (row_attribute rows)) (none_written out ∙ filter-nothing set (is_attribute_of rows x) 1 (length rows - 1) (λ (y : ℕ) ge lt passes. own_attribute x y quiet ge lt passes))
+        let joined = joined_base rows set rule x in
+        ap (flat_map (row_attribute rows joined)) (none_written joined out ∙ filter-nothing set (is_attribute_of rows x) 1 (length rows - 1) (λ (y : ℕ) ge lt passes. own_attribute x y quiet ge lt passes))
 
     no_opening_of : (k : Kind) → set x ≡ false → opening_of rows set rule comments x k ≡ []
     no_opening_of Root out = refl
@@ -133,7 +135,7 @@ module _ (rows : List RowOf) (w : IsWellShaped rows) (set : ℕ → Bool) where
         | inl before ↦ below y pos before
         | inr not_before ↦ absurd (elim (cases_eq y from) [
           | inl same ↦ not_both _ (ap (λ (m : ℕ). is_field (row_at rows m).kind) (sym same) ∙ field) child
-          | inr other ↦ not_both _ (w.fields_first y from in_size field (omega arith) (omega arith)) child
+          | inr other ↦ not_both _ (w.fields.fields_first y from in_size field (omega arith) (omega arith)) child
         ])
       ];
     }
@@ -145,14 +147,14 @@ module _ (rows : List RowOf) (w : IsWellShaped rows) (set : ℕ → Bool) where
     -- and else at its parent
     pub quiet_below_field : (x : ℕ) → 0 < from → from < length rows → is_child rows from ≡ false → x < parent_of rows from → IsQuiet rows set x
     quiet_below_field x pos_from there no_child lt =
-        let above = w.parent_before from pos_from there in
+        let above = w.nesting.parent_before from pos_from there in
         record {
           itself = itself_below x (omega arith);
           fields = λ (y : ℕ) pos in_size field up. elim (cases_lt y from) [
             | inl before ↦ below y pos before
             | inr not_before ↦
-                let crossed : is_field (row_at rows (parent_of rows from)).kind ≡ true = w.fields_first y (parent_of rows from) in_size field (omega arith) (omega arith) in
-                let element = w.field_of_element from there (is_true _ no_child) in
+                let crossed : is_field (row_at rows (parent_of rows from)).kind ≡ true = w.fields.fields_first y (parent_of rows from) in_size field (omega arith) (omega arith) in
+                let element = w.fields.field_of_element from there (is_true _ no_child) in
                 absurd (false≢true (sym (field_not_element _ element) ∙ crossed))
           ];
         }
@@ -182,8 +184,8 @@ module _ (rows : List RowOf) (w : IsWellShaped rows) (set : ℕ → Bool) where
         go : (b : Bool) → is_child rows from ≡ b → (0 < (if b then from else parent_of rows from)) × ((if b then from else parent_of rows from) ≤ from)
         go true child = (pos, omega arith)
         go false no_child =
-            let above = w.parent_before from pos there in
-            let element = w.field_of_element from there (is_on _ no_child) in
+            let above = w.nesting.parent_before from pos there in
+            let element = w.fields.field_of_element from there (is_on _ no_child) in
             let not_root : parent_of rows from ≡ 0 → ⊥ = λ e. false≢true (sym (root_no_element _ (ap (kind_of rows) e ∙ w.root_kind)) ∙ element) in
             (omega arith, omega arith)
 
@@ -191,7 +193,7 @@ module _ (rows : List RowOf) (w : IsWellShaped rows) (set : ℕ → Bool) where
     pub quiet_behind : (x : ℕ) → until ≤ x → IsQuiet rows set x
     quiet_behind x le = record {
       itself = inr (behind x le);
-      fields = λ (y : ℕ) pos in_size field up. let before = w.parent_before y pos in_size in behind y (omega arith);
+      fields = λ (y : ℕ) pos in_size field up. let before = w.nesting.parent_before y pos in_size in behind y (omega arith);
     }
 
     -- where there is no row between, nothing is written

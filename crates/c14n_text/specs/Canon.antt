@@ -1,24 +1,15 @@
 -- The canonical form of a set of rows: Canonical XML 1.0, section 2.3, "Processing Model"
-use Rattle.std.specs.Prelude.{ℕ, ◌-◌, Bool, false, ◌&&◌, ◌==◌, nat_lt, Option, Some, None, List, [], ◌++◌, length, codes, if◌then◌else◌}
-use Rattle.std.specs.List.{find, range_with_len}
+use Rattle.std.specs.Prelude.{ℕ, Bool, false, ◌&&◌, ◌==◌, nat_lt, Option, Some, None, List, [], ◌++◌, length, codes, if◌then◌else◌}
 use Rattle.xml_doc.specs.declared.row.Kind.{Kind}
 use Rattle.xml_doc.specs.declared.row.Kind.TheVariants.{Root, Element, Namespace, Attribute, Text, Comment, Instruction}
-use Rattle.xml_doc.specs.Kinds.{is_element}
 use Rattle.xml_doc.specs.Rows.{RowOf}
 use Rattle.xml_doc.specs.Shape.{row_at}
+pub use Rattle.xml_doc.specs.Top.{document_element}
 use Rattle.c14n_text.specs.Rows.{kind_of, parent_of, is_child}
 use Rattle.c14n_text.specs.Tree.{children, output}
 use Rattle.c14n_text.specs.Escapes.{text_octets, pi_octets, qname}
 use Rattle.c14n_text.specs.Namespaces.{Rule, namespace_octets}
-use Rattle.c14n_text.specs.Attributes.{attributes_octets}
-
--- row y is an element whose parent is the root: XPath 1.0, section 5.1
-abbrev pub is_top_element : List RowOf → ℕ → Bool
-is_top_element rows y = is_element (kind_of rows y) && (parent_of rows y == 0)
-
--- the document element, if the rows have one: XML 1.0, section 2.1
-abbrev pub document_element : List RowOf → Option ℕ
-document_element rows = find (is_top_element rows) (range_with_len 1 (length rows - 1))
+use Rattle.c14n_text.specs.Bases.{attributes_octets}
 
 -- row x stands before the document element
 abbrev pub is_before_element : ℕ → Option ℕ → Bool
@@ -40,7 +31,8 @@ comment_octets text = codes "<!--" ++ text ++ codes "-->"
 -- the start tag of an element of the set, and its end tag: "Element Nodes"
 abbrev pub start_tag : List RowOf → (ℕ → Bool) → Rule → ℕ → List ℕ
 start_tag rows set rule x =
-    codes "<" ++ qname (row_at rows x).prefix_text (row_at rows x).local_name ++ namespace_octets rows set rule x ++ attributes_octets rows set rule x ++ codes ">"
+    codes "<" ++ qname (row_at rows x).prefix_text (row_at rows x).local_name ++ namespace_octets rows set rule x
+    ++ attributes_octets rows set rule x ++ codes ">"
 
 abbrev pub end_tag : List RowOf → ℕ → List ℕ
 end_tag rows x = codes "</" ++ qname (row_at rows x).prefix_text (row_at rows x).local_name ++ codes ">"
@@ -52,7 +44,8 @@ opening_of rows set rule comments x Element =
     if set x then start_tag rows set rule x else namespace_octets rows set rule x ++ attributes_octets rows set rule x
 opening_of rows set rule comments x Text = if set x then text_octets (row_at rows x).value else []
 opening_of rows set rule comments x Comment = if comments && set x then with_line_feed rows x (comment_octets (row_at rows x).value) else []
-opening_of rows set rule comments x Instruction = if set x then with_line_feed rows x (pi_octets (row_at rows x).local_name (row_at rows x).value) else []
+opening_of rows set rule comments x Instruction = if set x
+    then with_line_feed rows x (pi_octets (row_at rows x).local_name (row_at rows x).value) else []
 opening_of rows set rule comments x Root = []
 opening_of rows set rule comments x Namespace = []
 opening_of rows set rule comments x Attribute = []

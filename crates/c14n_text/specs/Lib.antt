@@ -5,7 +5,6 @@ pub mod Walk
 pub mod Rows
 pub mod Namespaces
 pub mod Attributes
-pub mod Choice
+pub mod Bases
 pub mod Canon
-pub mod Progress
-pub mod Quiet
+pub mod Code

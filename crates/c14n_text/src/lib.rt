@@ -11,7 +11,8 @@ ghost use Rattle.std.specs.Prelude.{◌≡◌, ℕ, List, length, map};
 ghost use Rattle.sig_base.specs.Puts.{Puts};
 ghost use Rattle.std.specs.List.{flat_map};
 ghost use Rattle.c14n_text.specs.Pieces.{piece_octets};
-ghost use Rattle.c14n_text.specs.Escapes.{pi_octets, text_octets, attribute_octets, escaped, escape_at, option_bytes};
+ghost use Rattle.c14n_text.specs.Escapes.{pi_octets, text_octets, attribute_octets, escaped, escape_at};
+ghost use Rattle.c14n_text.specs.Code.Escapes.{option_bytes};
 
 use sig_base::{OctetSink, Put, put_pieces};
 
@@ -40,11 +41,10 @@ fn escape_at(place: Place, octet: u8) -> Option<&'static [u8]>
     }
 }
 
-/// Writes a text, escaped as its place wants.
-fn put_escaped<S: OctetSink>(place: Place, text: &str, sink: &mut S) -> Put
-    ensures { Puts S.stands_for S.refusals S.makes sink.old sink.new (escaped place text.now) result }
+/// Writes the octets of a text, escaped as its place wants.
+fn put_escaped<S: OctetSink>(place: Place, octets: &[u8], sink: &mut S) -> Put
+    ensures { Puts S.stands_for S.refusals S.makes sink.old sink.new (escaped place octets.now) result }
 {
-    let octets = text.as_bytes();
     let mut from = 0;
     for (i, octet) in octets.iter().enumerate() {
         if let Some(escape) = escape_at(place, *octet) {
@@ -69,6 +69,8 @@ pub enum Piece<'a> {
     Text(&'a str),
     /// Escaped as an attribute's value.
     Value(&'a str),
+    /// The octets of a value, escaped as an attribute's.
+    ValueOctets(&'a [u8]),
 }
 
 /// Writes one piece.
@@ -77,8 +79,9 @@ pub fn put_piece<S: OctetSink>(piece: Piece<'_>, sink: &mut S) -> Put
 {
     match piece {
         Piece::Plain(text) => put_pieces(&[text.as_bytes()], sink),
-        Piece::Text(text) => put_escaped(Place::Content, text, sink),
-        Piece::Value(text) => put_escaped(Place::AttributeValue, text, sink),
+        Piece::Text(text) => put_escaped(Place::Content, text.as_bytes(), sink),
+        Piece::Value(text) => put_escaped(Place::AttributeValue, text.as_bytes(), sink),
+        Piece::ValueOctets(octets) => put_escaped(Place::AttributeValue, octets, sink),
     }
 }
 
@@ -100,7 +103,7 @@ pub fn put_all<S: OctetSink>(pieces: &[Piece<'_>], sink: &mut S) -> Put
 pub fn put_text<S: OctetSink>(text: &str, sink: &mut S) -> Put
     ensures { Puts S.stands_for S.refusals S.makes sink.old sink.new (text_octets text.now) result }
 {
-    put_escaped(Place::Content, text, sink)
+    put_escaped(Place::Content, text.as_bytes(), sink)
 }
 
 /// Writes a processing instruction: `<?`, the target, a space and the value where that isn't empty, `?>` (Canonical XML 1.0
@@ -160,6 +163,43 @@ pub fn put_attribute<'a, S: OctetSink>(
                 Plain(local),
                 Plain("=\""),
                 Value(value),
+                Plain("\""),
+            ],
+            sink,
+        )
+    }
+}
+
+/// The same with the octets of a value.
+pub fn put_attribute_octets<'a, S: OctetSink>(
+    prefix: &'a str,
+    local: &'a str,
+    value: &'a [u8],
+    sink: &mut S,
+) -> Put
+    ensures { Puts S.stands_for S.refusals S.makes sink.old sink.new (attribute_octets prefix.now local.now value.now) result }
+{
+    use Piece::{Plain, ValueOctets};
+    if prefix.is_empty() {
+        put_all(
+            &[
+                Plain(" "),
+                Plain(local),
+                Plain("=\""),
+                ValueOctets(value),
+                Plain("\""),
+            ],
+            sink,
+        )
+    } else {
+        put_all(
+            &[
+                Plain(" "),
+                Plain(prefix),
+                Plain(":"),
+                Plain(local),
+                Plain("=\""),
+                ValueOctets(value),
                 Plain("\""),
             ],
             sink,

@@ -1,6 +1,9 @@
+mod AskLaws
 mod Lists
+mod MeasureLaws
 mod OutcomeLaws
-mod Pointers
 mod ProgressLaws
+mod ReachedLaws
 mod SignatureLaws
 mod ValidLaws
+mod Worked

@@ -1,4 +1,4 @@
--- Signature validation: the canonical SignedInfo, the bits of the value, and what each of them makes the verdict.
+-- Signature validation: the canonical SignedInfo, the bits of the value, and what each of them makes of the signature.
 use Rattle.std.proofs.Common.{◌≡◌, ℕ, ◌*◌, ◌%◌, ◌<◌, ◌≤◌, Bool, true, false, List, length, map, not, Option, Some, None, Result, Ok, Err, refl, ap, sym, ◌∙◌, arith, encode_utf8_all}
 use Rattle.std.specs.Prelude.{nat_le, if◌then◌else◌}
 use Rattle.std.proofs.Math.Path.{fun_ext}
@@ -12,13 +12,14 @@ use Rattle.digests_hmac.specs.Hash.{digest_size, hash_of}
 use Rattle.dsig_fields.specs.Holds.{is_long_enough, is_mac_value, value_bits}
 use Rattle.dsig_fields.specs.Lengths.{may_keep}
 use Rattle.dsig_fields.specs.declared.fields.Fields.{Fields}
-use Rattle.core_validate.specs.Outcome.{references_report, verdict}
-use Rattle.core_validate.specs.Signature.{value_stands}
-use Rattle.core_validate.specs.Views.{and_then, canonical_signed_info, octet_limit}
-use Rattle.core_validate.specs.declared.refusal.ValidateRefusal.{ValidateRefusal}
-use Rattle.core_validate.specs.declared.refusal.ValidateRefusal.TheVariants as refusal
-use Rattle.core_validate.specs.declared.report.Report.{Report}
-use Rattle.core_validate.specs.declared.report.Report.TheVariants as report
+use Rattle.sig_base.specs.Outcomes.{and_then}
+use Rattle.transforms.specs.Outcome.{canonical_signed_info}
+use Rattle.transforms.specs.Steps.{octet_limit}
+use Rattle.core_validate.specs.Code.Signature.{failure_by, signature_failure, value_stands}
+use Rattle.transforms.specs.declared.outcome.ValidateRefusal.{ValidateRefusal}
+use Rattle.transforms.specs.declared.outcome.ValidateRefusal.TheVariants as refusal
+use Rattle.transforms.specs.declared.outcome.Report.{Report}
+use Rattle.transforms.specs.declared.outcome.Report.TheVariants as report
 
 -- the canonical form of the rows of SignedInfo
 pub form_of_set : (rows : List RowOf) (fields : Fields) (set : SetOf) → set.rows ≡ rows → ((k : ℕ) → has set.members k ≡ in_subtree rows fields.signed_info k)
@@ -39,14 +40,6 @@ pub bits_within : (mac : MacMethod) (bits : Option ℕ) → ((n : ℕ) → bits 
 bits_within mac None may = omega arith
 bits_within mac (Some n) may = leb-true n (8 * digest_size (hash_of mac)) (and_parts _ _ (may n refl)).1
 
--- the verdict goes by the bits, then by the length of the canonical SignedInfo, then by the value
-verdict_in_steps : (long within stands : Bool) (short differs behind : Result Report ValidateRefusal)
-    → (if not long then short else (if not within then Err refusal.OctetsTooLong else (if not stands then differs else behind)))
-    ≡ (if not long then short else and_then (if not within then Err refusal.OctetsTooLong else Ok stands) (λ b. if not b then differs else behind))
-verdict_in_steps false within stands short differs behind = refl
-verdict_in_steps true false stands short differs behind = refl
-verdict_in_steps true true stands short differs behind = refl
-
 module _ (rows : List RowOf) (fields : Fields) (key : List ℕ) where
   abbrev octets : List ℕ
   octets = canonical_signed_info rows fields
@@ -57,6 +50,10 @@ module _ (rows : List RowOf) (fields : Fields) (key : List ℕ) where
   abbrev is_value : Bool
   is_value = is_mac_value fields.mac bits key octets fields.value
 
+  -- the failure, by whether the bits are enough
+  abbrev behind_bits : Bool → Result (Option Report) ValidateRefusal
+  behind_bits long = if not long then Ok (Some (report.ShortTruncation bits)) else and_then (value_stands rows fields key) (λ s. Ok (failure_by s))
+
   pub info_too_long : octet_limit < length octets → value_stands rows fields key ≡ Err refusal.OctetsTooLong
   unfolding value_stands
   info_too_long long = ap (λ (b : Bool). if not b then Err refusal.OctetsTooLong else Ok is_value) (lt-leb (length octets) octet_limit long)
@@ -65,24 +62,11 @@ module _ (rows : List RowOf) (fields : Fields) (key : List ℕ) where
   unfolding value_stands
   info_within stands short e = ap (λ (b : Bool). if not b then Err refusal.OctetsTooLong else Ok is_value) (le-leb (length octets) octet_limit short) ∙ ap Ok (sym e)
 
-  module _ (keep : Bool) where
-    -- the verdict behind the value
-    abbrev behind_value : Bool → Result Report ValidateRefusal
-    behind_value stands = if not stands then Ok report.SignatureDiffers else references_report rows keep fields.references
+  pub too_few_bits : is_long_enough fields.mac bits ≡ false → signature_failure rows fields key ≡ Ok (Some (report.ShortTruncation bits))
+  unfolding signature_failure
+  too_few_bits e = ap behind_bits e
 
-    -- and behind the bits
-    abbrev behind_bits : Bool → Result Report ValidateRefusal
-    behind_bits long = if not long then Ok (report.ShortTruncation bits) else and_then (value_stands rows fields key) behind_value
-
-    pub verdict_by : verdict rows keep fields key ≡ behind_bits (is_long_enough fields.mac bits)
-    unfolding verdict value_stands
-    verdict_by =
-        verdict_in_steps (is_long_enough fields.mac bits) (nat_le (length octets) octet_limit) is_value
-        (Ok (report.ShortTruncation bits)) (Ok report.SignatureDiffers) (references_report rows keep fields.references)
-
-    pub too_few_bits : is_long_enough fields.mac bits ≡ false → verdict rows keep fields key ≡ Ok (report.ShortTruncation bits)
-    too_few_bits e = verdict_by ∙ ap behind_bits e
-
-    pub by_value : (stands : Result Bool ValidateRefusal) → is_long_enough fields.mac bits ≡ true → value_stands rows fields key ≡ stands
-        → verdict rows keep fields key ≡ and_then stands behind_value
-    by_value stands e f = verdict_by ∙ ap behind_bits e ∙ ap (λ (r : Result Bool ValidateRefusal). and_then r behind_value) f
+  pub by_value : (stands : Result Bool ValidateRefusal) → is_long_enough fields.mac bits ≡ true → value_stands rows fields key ≡ stands
+      → signature_failure rows fields key ≡ and_then stands (λ s. Ok (failure_by s))
+  unfolding signature_failure
+  by_value stands e f = ap behind_bits e ∙ ap (λ (r : Result Bool ValidateRefusal). and_then r (λ s. Ok (failure_by s))) f

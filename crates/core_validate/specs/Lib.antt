@@ -1,6 +1,7 @@
-pub mod Targets
-pub mod Views
-pub mod Outcome
-pub mod Progress
-pub mod Signature
+pub mod Answers
+pub mod Authenticated
 pub mod Laws
+pub mod Measures
+pub mod Progress
+pub mod Reached
+pub mod Code

@@ -1,62 +1,176 @@
-//! The view of a Reference without Transforms: the octets whose digest is compared (XML Signature 1.1 §4.4.3.2).
+//! The view of a Reference as a validation needs it: its length, its digest and, where it is kept, its octets (XML Signature 1.1
+//! §4.4.3.2).
 
-ghost use Rattle.std.specs.Prelude.{◌≡◌, ◌<◌, ◌-◌, ◌^◌, ◌∷◌, ◌++◌, [], false, length, min, IfOk, OnOk};
-ghost use Rattle.node_sets.specs.Members.{has};
-ghost use Rattle.c14n_text.specs.Canon.{canon};
-ghost use Rattle.c14n_text.specs.Namespaces.{inclusive};
+ghost use Rattle.std.specs.Prelude.{◌≡◌, ◌<◌, Some, true, false, ℕ, List, [], length, IfOk};
+ghost use Rattle.std.specs.List.{list_all};
+ghost use Rattle.std.specs.Option.{ForSome};
+ghost use Rattle.sig_outside.specs.Told.{Held};
 ghost use Rattle.digests_hmac.specs.Hash.{hash};
-ghost use Rattle.core_validate.specs.Outcome.{kept_if};
-ghost use Rattle.core_validate.specs.Views.{in_target};
+ghost use Rattle.digests_hmac.specs.Sinks.{digest_by};
+ghost use Rattle.dsig_fields.specs.Fits.{ReferenceFits};
+ghost use Rattle.transforms.specs.Answers.{AsksAll, FaultCounts, Tells, names_of};
+ghost use Rattle.transforms.specs.Values.{origin_of};
+ghost use Rattle.transforms.specs.Views.{target_in, view_of};
+ghost use Rattle.core_validate.specs.Measures as spec;
+ghost use Rattle.core_validate.specs.Code.Measures as code;
 
-use crate::canonical::{canonical_digest, canonical_length, canonical_octets};
-use digests_hmac::{Digest, digest};
-use node_sets::NodeSet;
-use sig_base::{CanonMethod, DigestMethod, NoMemory, OctetsList, PrefixList};
+use digests_hmac::{Digest, DigestSink, digest};
+use dsig_fields::Reference;
+use sig_base::{DigestMethod, LenSink, OctetSink, Octets, Put, VecSink};
+use sig_outside::Folder;
 use std::alloc::Global;
+use transforms::{RefRefusal, run_reference};
+use uri_refs::Place;
 use xml_doc::Doc;
 
-/// The method that writes a node set that is left behind the last Transform.
-const VIEW_METHOD: CanonMethod = CanonMethod::C10;
-
-/// The rows that a same-document reference to the element selects: its subtree without its comments (§4.4.3.3).
-pub(crate) fn target_set<'d>(
-    alloc: Global,
-    doc: &'d Doc<'d>,
-    element: u32,
-) -> Result<NodeSet<'d>, NoMemory>
-    requires { element < length doc.now }
-    ensures document { IfOk result (λ set. set.rows ≡ doc.now) }
-    ensures members { IfOk result (λ set. has set.members ≡ in_target doc.now element) }
-{
-    let mut set = NodeSet::subtree(alloc, doc, element)?;
-    set.drop_comments();
-    Ok(set)
+/// A view: its length, its digest and, where it is kept, its octets.
+#[derive(Drop)]
+pub(crate) struct Measured {
+    /// The length in octets.
+    pub(crate) length: u64,
+    /// The digest.
+    pub(crate) value: Digest,
+    /// The octets, where they are kept.
+    pub(crate) octets: Option<Octets>,
 }
 
-/// The length of the view of these rows, in octets.
-pub(crate) fn view_length(alloc: Global, set: &NodeSet<'_>) -> Result<u64, NoMemory>
-    ensures { IfOk result (λ n. n ≡ min (length (canon inclusive false set.now.rows (has set.now.members))) (2 ^ 64 - 1)) }
-{
-    canonical_length(VIEW_METHOD, &PrefixList::new(alloc), set)
+/// Counts and digests what is put, and never refuses.
+#[derive(Drop)]
+struct CountSink {
+    count: LenSink,
+    digest: DigestSink,
 }
 
-/// The digest of the view of these rows. The view itself is added to those that are kept, where it is wanted.
-pub(crate) fn view_digest(
-    alloc: Global,
-    set: &NodeSet<'_>,
-    method: DigestMethod,
-    keep: bool,
-    kept: &mut OctetsList,
-) -> Result<Digest, NoMemory>
-    ensures value { IfOk result (λ value. value ≡ hash method (canon inclusive false set.now.rows (has set.now.members))) }
-    ensures kept { OnOk result (kept.new ≡ kept.old ++ kept_if keep (canon inclusive false set.now.rows (has set.now.members) ∷ [])) }
-{
-    let prefixes = PrefixList::new(alloc);
-    if !keep {
-        return canonical_digest(VIEW_METHOD, &prefixes, set, method);
+impl CountSink {
+    /// A sink that has taken nothing.
+    fn new(method: DigestMethod) -> CountSink
+        ensures empty { spec.HasCounted result [] }
+        ensures makes { (octets : List ℕ) → digest_by result.digest octets ≡ hash method octets }
+    {
+        CountSink {
+            count: LenSink::new(),
+            digest: DigestSink::new(method),
+        }
     }
-    let view = canonical_octets(alloc, VIEW_METHOD, &prefixes, set)?;
-    let value = digest(method, view.bytes());
-    kept.push(view)?;
-    Ok(value)
+}
+
+impl OctetSink for CountSink {
+    ghost stands_for = { spec.HasCounted };
+
+    ghost refusals = { λ _. 0 };
+
+    ghost makes = { λ s octets. digest_by s.digest octets };
+
+    fn put(&mut self, piece: &[u8]) -> Put {
+        let _counted = self.count.put(piece);
+        self.digest.put(piece)
+    }
+}
+
+/// The view of a Reference, which is kept.
+fn measure_kept<F: Folder>(
+    alloc: Global,
+    doc: &Doc<'_>,
+    signature: u32,
+    reference: &Reference,
+    place: &Place,
+    folder: &mut F,
+) -> Result<Measured, RefRefusal>
+    requires fits { ReferenceFits doc.now reference.now }
+    requires signature { signature < length doc.now }
+    ensures measured { (files : Held) → Tells (target_in place.now reference.now) (F.held folder.old) files
+        → code.Measures true reference.now.digest result (view_of (origin_of doc.now (Some signature)) place.now files reference.now) }
+    ensures shape { IfOk result (spec.IsMeasure true reference.now.digest) }
+    ensures held { F.held folder.new ≡ F.held folder.old }
+    ensures asked { ForSome (F.held folder.old) (λ _. AsksAll result (names_of (target_in place.now reference.now)) (F.asked folder.old)
+        (F.asked folder.new)) }
+    ensures faults { FaultCounts result (F.faults folder.old) (F.faults folder.new) }
+{
+    let mut sink = VecSink::new(alloc);
+    match run_reference(
+        alloc,
+        doc,
+        Some(signature),
+        reference,
+        place,
+        folder,
+        &mut sink,
+    ) {
+        Ok(()) => {
+            let view = sink.finish();
+            Ok(Measured {
+                length: view.len() as u64,
+                value: digest(reference.digest, view.bytes()),
+                octets: Some(view),
+            })
+        }
+        Err(RefRefusal::SinkRefused) => Err(RefRefusal::Memory),
+        Err(cause) => Err(cause),
+    }
+}
+
+/// The view of a Reference, which isn't kept: only its length and its digest are made.
+fn measure_dropped<F: Folder>(
+    alloc: Global,
+    doc: &Doc<'_>,
+    signature: u32,
+    reference: &Reference,
+    place: &Place,
+    folder: &mut F,
+) -> Result<Measured, RefRefusal>
+    requires fits { ReferenceFits doc.now reference.now }
+    requires signature { signature < length doc.now }
+    ensures measured { (files : Held) → Tells (target_in place.now reference.now) (F.held folder.old) files
+        → code.Measures false reference.now.digest result (view_of (origin_of doc.now (Some signature)) place.now files reference.now) }
+    ensures shape { IfOk result (spec.IsMeasure false reference.now.digest) }
+    ensures held { F.held folder.new ≡ F.held folder.old }
+    ensures asked { ForSome (F.held folder.old) (λ _. AsksAll result (names_of (target_in place.now reference.now)) (F.asked folder.old)
+        (F.asked folder.new)) }
+    ensures faults { FaultCounts result (F.faults folder.old) (F.faults folder.new) }
+{
+    let mut sink = CountSink::new(reference.digest);
+    match run_reference(
+        alloc,
+        doc,
+        Some(signature),
+        reference,
+        place,
+        folder,
+        &mut sink,
+    ) {
+        Ok(()) => Ok(Measured {
+            length: sink.count.count(),
+            value: sink.digest.finish(),
+            octets: None,
+        }),
+        Err(RefRefusal::SinkRefused) => Err(RefRefusal::Memory),
+        Err(cause) => Err(cause),
+    }
+}
+
+/// The view of a Reference. One that isn't kept is counted and digested in one pass, and takes no memory of its length.
+pub(crate) fn measure<F: Folder>(
+    alloc: Global,
+    doc: &Doc<'_>,
+    signature: u32,
+    reference: &Reference,
+    place: &Place,
+    keep: bool,
+    folder: &mut F,
+) -> Result<Measured, RefRefusal>
+    requires fits { ReferenceFits doc.now reference.now }
+    requires signature { signature < length doc.now }
+    ensures measured { (files : Held) → Tells (target_in place.now reference.now) (F.held folder.old) files
+        → code.Measures keep reference.now.digest result (view_of (origin_of doc.now (Some signature)) place.now files reference.now) }
+    ensures shape { IfOk result (spec.IsMeasure keep reference.now.digest) }
+    ensures held { F.held folder.new ≡ F.held folder.old }
+    ensures asked { ForSome (F.held folder.old) (λ _. AsksAll result (names_of (target_in place.now reference.now)) (F.asked folder.old)
+        (F.asked folder.new)) }
+    ensures faults { FaultCounts result (F.faults folder.old) (F.faults folder.new) }
+{
+    if keep {
+        measure_kept(alloc, doc, signature, reference, place, folder)
+    } else {
+        measure_dropped(alloc, doc, signature, reference, place, folder)
+    }
 }

@@ -6,7 +6,8 @@ use Rattle.std.specs.Str.{chars, is_utf8}
 use Rattle.std.specs.Char.{encode_utf8}
 use Rattle.digests_hmac.specs.Hash.{hmac_of}
 use Rattle.digests_hmac.specs.KeyLines.{octets_of_digits}
-use Rattle.digests_hmac.specs.Keys.{keys_of, lines_of, lines_read, line_read}
+use Rattle.sig_base.specs.Lines.{lines_of, lines_read}
+use Rattle.digests_hmac.specs.Keys.{keys_of, line_read}
 use Rattle.digests_hmac.specs.declared.key_table.KeyFault.TheVariants.{BadLine, Repeated}
 
 -- the second test case of RFC 2202 section 3

@@ -1,7 +1,8 @@
 -- Lines of a key file: the key in hexadecimal digits, one space, the key's name
-use Rattle.std.specs.Prelude.{◌==◌, ℕ, ◌+◌, ◌-◌, ◌*◌, ◌%◌, Bool, true, not, ◌&&◌, nat_lt, nat_le, List, [], ◌∷◌, length, Option, Some, None, is_some, if◌then◌else◌}
+use Rattle.std.specs.Prelude.{◌==◌, ℕ, ◌+◌, ◌-◌, ◌*◌, ◌%◌, Bool, ◌&&◌, nat_le, List, [], ◌∷◌, length, Option, Some, None, is_some, if◌then◌else◌}
 use Rattle.std.specs.Option.{option_map_or}
-use Rattle.std.specs.List.{list_all, position_or_len, before_first, after_first}
+use Rattle.std.specs.List.{list_all, before_first, after_first}
+use Rattle.sig_base.specs.Lines.{has_blank, have_no_controls, is_blank}
 
 -- a number from one to another
 abbrev pub is_between : ℕ → ℕ → ℕ → Bool
@@ -34,19 +35,8 @@ is_key_digits digits = is_between 2 8192 (length digits) && ((length digits % 2 
 
 -- a name is 1 to 256 octets, none of them a control character below the space
 abbrev pub is_key_name : List ℕ → Bool
-is_key_name name = is_between 1 256 (length name) && list_all (λ c. not (nat_lt c 32)) name
-
--- the space
-abbrev pub is_blank : ℕ → Bool
-is_blank c = c == 32
+is_key_name name = is_between 1 256 (length name) && have_no_controls name
 
 -- digits, one space, a name
 abbrev pub is_key_line : List ℕ → Bool
-is_key_line line =
-    nat_lt (position_or_len is_blank line) (length line)
-    && (is_key_digits (before_first is_blank line) && is_key_name (after_first is_blank line))
-
--- a line that is empty or begins with # spells no key
-abbrev pub is_skipped : List ℕ → Bool
-is_skipped [] = true
-is_skipped (c ∷ rest) = c == 35
+is_key_line line = has_blank line && (is_key_digits (before_first is_blank line) && is_key_name (after_first is_blank line))

@@ -6,3 +6,4 @@ pub mod KeyEntries
 pub mod KeyLines
 pub mod Keys
 pub mod KeyFiles
+pub mod Code

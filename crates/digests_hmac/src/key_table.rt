@@ -4,13 +4,14 @@
 //! with `#` spells no key. Every other line is 2 to 8,192 hexadecimal digits, an even number of them, one space and the
 //! key's name: the rest of the line, 1 to 256 octets with no control character below the space.
 
-ghost use Rattle.std.specs.Prelude.{◌≡◌, ◌∷◌, ◌<◌, length};
+ghost use Rattle.std.specs.Prelude.{◌≡◌};
 ghost use Rattle.std.specs.Option.{option_copied};
-ghost use Rattle.std.specs.Str.Lines.{strip_carriage_return};
-ghost use Rattle.digests_hmac.specs.KeyLines.{is_skipped, octets_of_digits};
+ghost use Rattle.digests_hmac.specs.KeyLines.{octets_of_digits};
 ghost use Rattle.digests_hmac.specs.Keys as spec;
+ghost use Rattle.digests_hmac.specs.Code.Keys as code;
 
-use crate::keys::{is_key_digits, is_key_name, octets_of_digits, place_of};
+use crate::keys::{is_key_digits, is_key_name, octets_of_digits};
+use sig_base::{first_line, is_skipped};
 use std::alloc::{AllocError, AllocFailed, Global};
 use std::marker::Model;
 
@@ -91,39 +92,6 @@ impl Key {
     }
 }
 
-/// Whether the line spells no key.
-fn is_skipped(line: &[u8]) -> bool
-    ensures { result ≡ is_skipped line.now }
-{
-    match line {
-        [] => true,
-        [first, ..] => *first == b'#',
-    }
-}
-
-/// The line less the CR at its end.
-fn strip_carriage_return(line: &[u8]) -> &[u8]
-    ensures { result.now ≡ strip_carriage_return line.now }
-{
-    if !line.is_empty() && line[line.len() - 1] == b'\r' {
-        return &line[..line.len() - 1];
-    }
-    line
-}
-
-/// The first line of a text, and what follows it.
-fn first_line(text: &[u8]) -> (&[u8], &[u8])
-    requires { 0 < length text.now }
-    ensures lines { spec.lines_of text.now ≡ result.0.now ∷ spec.lines_of result.1.now }
-    ensures shorter { length result.1.now < length text.now }
-{
-    let end = place_of(text, b'\n');
-    if end == text.len() {
-        return (text, &text[end..]);
-    }
-    (strip_carriage_return(&text[..end]), &text[end + 1..])
-}
-
 /// The key of this name.
 fn named<'k>(keys: &'k [Key], name: &str) -> Option<&'k Key>
     ensures { option_copied result ≡ spec.named name.now keys.now }
@@ -144,7 +112,8 @@ fn add_key(
     digits: &[u8],
     name: &str,
 ) -> Result<(), KeyFault>
-    ensures { spec.Changes result keys.new.items (spec.added (record { line = line; name = name.now; octets = octets_of_digits digits.now }) keys.old.items) }
+    ensures { code.Changes result keys.new.items (spec.added
+        (record { line = line; name = name.now; octets = octets_of_digits digits.now }) keys.old.items) }
 {
     if let Some(earlier) = named(keys, name) {
         return Err(KeyFault::Repeated(line, earlier.line()));
@@ -160,7 +129,7 @@ fn add_key(
 
 /// Reads one line.
 fn read_line(alloc: Global, keys: &mut Vec<Key>, number: u64, line: &[u8]) -> Result<(), KeyFault>
-    ensures { spec.Changes result keys.new.items (spec.line_read number line.now keys.old.items) }
+    ensures { code.Changes result keys.new.items (spec.line_read number line.now keys.old.items) }
 {
     let Ok(text) = str::from_utf8(line) else {
         return Err(KeyFault::BadLine(number));

@@ -1,9 +1,10 @@
 //! Key files: lines of a key in hexadecimal digits, one space and the key's name.
 
-ghost use Rattle.std.specs.Prelude.{◌≡◌, ◌<◌, ◌≤◌, ◌==◌, IfOk, not, nat_lt, length};
-ghost use Rattle.std.specs.List.{list_all, position_or_len};
+ghost use Rattle.std.specs.Prelude.{◌≡◌, ◌<◌, IfOk};
+ghost use Rattle.std.specs.List.{list_all};
 ghost use Rattle.digests_hmac.specs.KeyLines as spec;
 
+use sig_base::have_no_controls;
 use std::alloc::{AllocError, Global};
 
 /// The value of a hexadecimal digit of either case.
@@ -40,13 +41,6 @@ pub(crate) fn is_key_digits(digits: &[u8]) -> bool
     2 <= digits.len() && digits.len() <= 8192 && digits.len() % 2 == 0 && are_digits(digits)
 }
 
-/// Whether no octet is a control character below the space.
-fn have_no_controls(octets: &[u8]) -> bool
-    ensures { result ≡ list_all (λ c. not (nat_lt c 32)) octets.now }
-{
-    octets.iter().all(|octet| *octet >= 32)
-}
-
 /// Whether this is the name of a key: 1 to 256 octets with no control character below the space.
 pub(crate) fn is_key_name(name: &[u8]) -> bool
     ensures { result ≡ spec.is_key_name name.now }
@@ -63,17 +57,4 @@ pub(crate) fn octets_of_digits(alloc: Global, digits: &[u8]) -> Result<Vec<u8>, 
         octets.push(16 * value_of(digits[2 * i]) + value_of(digits[2 * i + 1]))?;
     }
     Ok(octets)
-}
-
-/// The place of the first octet that is the wanted one, or the length where there is none.
-pub(crate) fn place_of(octets: &[u8], wanted: u8) -> usize
-    ensures place { result ≡ position_or_len (λ octet. octet == wanted) octets.now }
-    ensures within { result ≤ length octets.now }
-{
-    for (i, octet) in octets.iter().enumerate() {
-        if *octet == wanted {
-            return i;
-        }
-    }
-    octets.len()
 }

@@ -10,7 +10,8 @@ use Rattle.base64.specs.GeneralPurpose.{IsBytes, IsStrict, encode_of, decode_of,
 use Rattle.base64.specs.declared.decode.DecodeError.{DecodeError}
 use Rattle.base64.specs.Rfc4648.{encode_symbols, padding_len}
 use Rattle.base64.proofs.EngineFacts.{decode_of_strict, decode_of_iff, decode_of-encode_of}
-use Rattle.dsig_base64.specs.Loose.{base64_of, is_space, octets_in, without_space, SpellsExactly}
+use Rattle.sig_base.specs.Space.{is_space}
+use Rattle.dsig_base64.specs.Loose.{base64_of, octets_in, without_space, SpellsExactly}
 
 pub strict : IsStrict standard
 strict = (refl, refl)

@@ -1,11 +1,8 @@
 -- Base64 (RFC 4648 section 4) as functions on lists of octets: written without white space, and read with it
-use Rattle.std.specs.Prelude.{◌≡◌, ◌==◌, ◌↔◌, ℕ, ◌||◌, Bool, not, List, filter, Option, Some}
+use Rattle.std.specs.Prelude.{◌≡◌, ◌↔◌, ℕ, not, List, filter, Option, Some}
 use Rattle.base64.specs.Engines.{standard}
 use Rattle.base64.specs.GeneralPurpose.{encode_of, decoded_of}
-
--- white space of XML: space, tab, CR and LF (XML 1.0 section 2.3)
-abbrev pub is_space : ℕ → Bool
-is_space octet = (octet == 32) || (octet == 9) || (octet == 13) || (octet == 10)
+use Rattle.sig_base.specs.Space.{is_space}
 
 -- the text less its white space
 abbrev pub without_space : List ℕ → List ℕ

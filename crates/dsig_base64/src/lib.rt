@@ -4,22 +4,16 @@
 ghost use Rattle.std.specs.Prelude.{◌≡◌, ◌↔◌, ◌≤◌, ◌+◌, ◌*◌, ◌/◌, ◌++◌, IfOk, IsErr, length, take, drop};
 ghost use Rattle.base64.specs.Engines.{standard};
 ghost use Rattle.base64.specs.GeneralPurpose.{decoded_of};
-ghost use Rattle.dsig_base64.specs.Loose.{base64_of, is_space, octets_in, without_space};
+ghost use Rattle.dsig_base64.specs.Loose.{base64_of, octets_in, without_space};
 
 pub mod laws;
 
 use base64::engine::general_purpose::STANDARD;
+use sig_base::is_space;
 
 /// The text isn't base64 with full padding and zero spare bits.
 #[derive(Clone, Copy, Debug, PartialEq, Eq, Drop)]
 pub struct NotBase64;
-
-/// Whether the octet is white space of XML (XML 1.0 §2.3).
-fn is_space(octet: u8) -> bool
-    ensures { result ≡ is_space octet }
-{
-    octet == b' ' || octet == b'\t' || octet == b'\r' || octet == b'\n'
-}
 
 /// Writes the text less its white space to the start of `into`, and gives its length.
 fn drop_space(text: &[u8], into: &mut [u8]) -> usize

@@ -9,8 +9,9 @@ use Rattle.sig_base.specs.Methods.{is_exclusive, canon_method_of, mac_method_of}
 use Rattle.sig_base.specs.declared.method.CanonMethod.{CanonMethod}
 use Rattle.sig_base.specs.declared.method.MacMethod.{MacMethod}
 use Rattle.xml_doc.specs.Rows.{RowOf}
-use Rattle.xml_doc.specs.Shape.{row_at, no_row}
-use Rattle.dsig_fields.specs.Fields.{algorithm, mac_refusal, filter_kind_in, digest_method, key_info_if, inner_prefixes, canonicalization_method, output_length, signature_method, bare_step, canonicalizing_step, xpath_step, filter_at, filters_step, other_step, step_by, transform, transforms, transforms_if, reference, info_fields, fields_of}
+use Rattle.xml_doc.specs.Shape.{IsWellShaped}
+use Rattle.dsig_fields.specs.Fields.{algorithm, mac_refusal, filter_kind_in, digest_method, key_info_if, inner_prefixes, canonicalization_method, output_length, signature_method, canonicalizing_step, filter_at, other_step, step_by, transform, transforms, transforms_if, reference, info_fields, fields_of}
+use Rattle.dsig_fields.specs.Fields.{bare_step, xpath_step, filters_step}
 use Rattle.dsig_fields.specs.Fits.{IsElement, PrefixesFit, FilterFits, StepFits, ReferenceFits, FieldsFit}
 use Rattle.dsig_fields.specs.Lengths.{length_in, kept_if, decimal_in, trimmed, may_keep}
 use Rattle.dsig_fields.specs.Reading.{◌>>=◌, or_refusal, attribute, passed, taken, required, optional, optional_if, behind_all, many, one_or_more, at_end, children, is_named, is_element_at, is_passed}
@@ -28,36 +29,12 @@ use Rattle.dsig_fields.specs.declared.fields.InfoFields.{InfoFields}
 use Rattle.dsig_fields.specs.declared.fields.Fields.{Fields}
 use Rattle.dsig_fields.specs.declared.fields.Canonicalization.{Canonicalization}
 use Rattle.dsig_fields.specs.declared.fields.Authentication.{Authentication}
+use Rattle.dsig_fields.proofs.RiseLaws.{InOrder, rows_in_order}
+use Rattle.dsig_fields.proofs.Steps.{then_fits, in_any_case, named_fits}
 
 -- ---- steps
--- what a step gives decides what the next one gives
-then_fits : {A B : Type 0} (P : A → Type 0) (Q : B → Type 0) (outcome : Result A FieldRefusal) (f : A → Result B FieldRefusal) → IfOk outcome P → ((x : A) → P x → IfOk (f x) Q) → IfOk (outcome >>= f) Q
-then_fits P Q (Ok x) f p next = next x p
-then_fits P Q (Err refusal) f p next = tt
-
--- whatever a step gives
-in_any_case : {A B : Type 0} (Q : B → Type 0) (outcome : Result A FieldRefusal) (f : A → Result B FieldRefusal) → ((x : A) → IfOk (f x) Q) → IfOk (outcome >>= f) Q
-in_any_case Q (Ok x) f next = next x
-in_any_case Q (Err refusal) f next = tt
-
 above_zero : (n : ℕ) → (n == 0) ≡ false → 0 < n
 above_zero n e = let h = eqb-false n 0 e in omega (arith, h)
-
--- ---- elements
-element_within : (rows : List RowOf) (y : ℕ) → is_element_at rows y ≡ true → y < length rows
-element_within rows y e = elim (cases_lt y (length rows)) [
-  | inl h ↦ h
-  | inr h ↦ let past : row_at rows y ≡ no_row = get_or_past rows y no_row h in absurd (false≢true (rw past at e))
-]
-
-first_holds : (a b c : Bool) → (a && b && c) ≡ true → a ≡ true
-first_holds true b c h = refl
-first_holds false b c h = h
-
-named_fits : (rows : List RowOf) (name : ElementName) (y : ℕ) → is_named rows name y ≡ true → IsElement rows y
-named_fits rows name y n =
-    let e : is_element_at rows y ≡ true = first_holds (is_element_at rows y) _ _ n in
-    record { within = element_within rows y e; element = e }
 
 taken_fits : (rows : List RowOf) (name : ElementName) (xs : List ℕ) → IfOk (or_refusal (Missing name) (taken rows name xs)) (λ p. IsElement rows p.0)
 taken_fits rows name [] = tt
@@ -236,16 +213,34 @@ info_fits rows x =
     then_fits (λ (p : List Reference × List ℕ). (length p.0 ≤ 256) × All (ReferenceFits rows) p.0) Q (one_or_more (λ y. TooManyReferences) rows names.Reference (reference rows) 256 second.1) _ (one_or_more_fits (ReferenceFits rows) (λ y. TooManyReferences) rows names.Reference (reference rows) (reference_fits rows) 256 (omega arith) second.1) (λ references fit.
     in_any_case Q (at_end rows references.1) _ (λ nothing. record { prefixes = prefixes; bits = bits; few = fit.0; references = fit.1 }))))))
 
-fields_fit_if : (rows : List RowOf) (x : ℕ) → IfOk (fields_of rows x) (FieldsFit rows)
+-- all but the order of the rows
+record AllFit (rows : List RowOf) (fields : Fields) : Type 0 where
+  signed_info : IsElement rows fields.signed_info
+  value_row : IsElement rows fields.value_row
+  info : InfoFits rows (record { canon = fields.canon; prefixes = fields.prefixes; mac = fields.mac; bits = fields.bits; references = fields.references })
+
+fields_fit_if : (rows : List RowOf) (x : ℕ) → IfOk (fields_of rows x) (AllFit rows)
 unfolding fields_of
 fields_fit_if rows x =
-    let Q = FieldsFit rows in
+    let Q = AllFit rows in
     then_fits (λ (p : ℕ × List ℕ). IsElement rows p.0) Q (required rows SignedInfo (children rows x)) _ (required_fits rows SignedInfo (children rows x)) (λ first signed_info.
     then_fits (InfoFits rows) Q (info_fields rows first.0) _ (info_fits rows first.0) (λ info fit.
     then_fits (λ (p : ℕ × List ℕ). IsElement rows p.0) Q (required rows SignatureValue first.1) _ (required_fits rows SignatureValue first.1) (λ second value_row.
     in_any_case Q (simple_octets rows second.0) _ (λ value. in_any_case Q (optional rows names.KeyInfo second.1) _ (λ third. in_any_case Q (key_info_if rows third.0) _ (λ key_name.
     in_any_case Q (behind_all rows names.Object third.1) _ (λ left. in_any_case Q (at_end rows left) _ (λ nothing.
-    record { signed_info = signed_info; value_row = value_row; prefixes = fit.prefixes; bits = fit.bits; few = fit.few; references = fit.references }))))))))
+    record { signed_info = signed_info; value_row = value_row; info = fit }))))))))
 
-pub fields_fit : (rows : List RowOf) (x : ℕ) (read : Fields) → fields_of rows x ≡ Ok read → FieldsFit rows read
-fields_fit rows x read is = rw is at (fields_fit_if rows x)
+pub fields_fit : (rows : List RowOf) (x : ℕ) (read : Fields) → IsWellShaped rows → fields_of rows x ≡ Ok read → FieldsFit rows read
+fields_fit rows x read shape is =
+    let fit : AllFit rows read = rw is at (fields_fit_if rows x) in
+    let order = rows_in_order rows shape x read is in
+    record {
+      signed_info = fit.signed_info;
+      value_row = fit.value_row;
+      prefixes = fit.info.prefixes;
+      bits = fit.info.bits;
+      few = fit.info.few;
+      references = fit.info.references;
+      digest_rows = order.digest_rows;
+      value_behind = order.value_behind;
+    }

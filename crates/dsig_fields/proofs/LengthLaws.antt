@@ -3,7 +3,7 @@ use Rattle.std.proofs.Common.{◌≡◌, ℕ, ◌≤◌, ◌+◌, ◌-◌, ◌*�
 use Rattle.std.proofs.lemmas.Bool.{cases_lt}
 use Rattle.std.proofs.lemmas.List.{reverse-append}
 use Rattle.std.proofs.Math.Nat.{min-eq_left, min-eq_right}
-use Rattle.dsig_base64.specs.Loose.{is_space}
+use Rattle.sig_base.specs.Space.{is_space}
 use Rattle.dsig_fields.specs.Lengths.{behind_space, number_behind}
 
 -- ---- white space

@@ -1,11 +1,13 @@
+pub mod ContentLaws
 pub mod FitLaws
 pub mod FoundLaws
 pub mod LengthLaws
 pub mod ManyLaws
 pub mod NameLaws
 pub mod NextLaws
-pub mod PrefixLaws
 pub mod Refusals
+pub mod RiseLaws
 pub mod SignatureLaws
 pub mod SimpleLaws
+pub mod Steps
 pub mod Worked

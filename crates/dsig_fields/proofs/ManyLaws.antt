@@ -3,7 +3,7 @@ use Rattle.std.proofs.Common.{◌≡◌, ℕ, ◌<◌, ◌-◌, ◌==◌, true, 
 use Rattle.std.specs.Prelude.{Option, Some, None, Result, Ok, Err, if◌then◌else◌}
 use Rattle.std.specs.Option.{is_some}
 use Rattle.xml_doc.specs.Rows.{RowOf}
-use Rattle.dsig_fields.specs.Cursor.{with_front}
+use Rattle.dsig_fields.specs.Code.Cursor.{with_front}
 use Rattle.dsig_fields.specs.Reading.{◌>>=◌, passed, optional, many, behind_all, Refuses}
 use Rattle.dsig_fields.specs.declared.names.ElementName.{ElementName}
 use Rattle.dsig_fields.specs.declared.refusal.FieldRefusal.{FieldRefusal}

@@ -4,7 +4,8 @@ use Rattle.std.specs.Prelude.{Option, Some, None, Result, Ok, Err}
 use Rattle.std.specs.Option.{option_or}
 use Rattle.std.specs.Str.{chars}
 use Rattle.xml_doc.specs.Rows.{RowOf}
-use Rattle.dsig_fields.specs.Cursor.{any_element, name_at, first_behind}
+use Rattle.dsig_fields.specs.Cursor.{any_element}
+use Rattle.dsig_fields.specs.Code.Cursor.{name_at, first_behind}
 use Rattle.dsig_fields.specs.Fields.{key_info, key_names, first_of}
 use Rattle.dsig_fields.specs.Reading.{◌>>=◌, children, passed, Refuses}
 use Rattle.dsig_fields.specs.Simple.{simple_text}

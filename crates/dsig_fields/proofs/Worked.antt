@@ -10,7 +10,7 @@ use Rattle.xml_doc.specs.declared.row.Kind.TheVariants.{Root, Element, Attribute
 use Rattle.dsig_fields.specs.Fields.{inner_prefixes, canonicalization_method, signature_method, digest_method, reference, key_names, key_info}
 use Rattle.dsig_fields.specs.Lengths.{length_in, behind_space, number_behind}
 use Rattle.dsig_fields.specs.Names.{signature_namespace}
-use Rattle.dsig_fields.specs.Prefixes.{names_in}
+use Rattle.sig_base.specs.Prefixes.{names_in}
 use Rattle.dsig_fields.specs.Reading.{passed, required, optional, at_end, many, one_or_more}
 use Rattle.dsig_fields.specs.Simple.{joined}
 use Rattle.dsig_fields.specs.declared.names.ElementName.TheVariants as element

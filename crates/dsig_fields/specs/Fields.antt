@@ -181,7 +181,15 @@ reference rows x = do
   value ← required rows element.DigestValue method.1
   expected ← simple_octets rows value.0
   nothing ← at_end rows value.1
-  Ok (record { row = x; uri = chars uri; manifest = names_manifest (attribute rows x (codes "Type")); steps = steps; digest = digest; digest_row = value.0; expected = expected })
+  Ok (record {
+    row = x;
+    uri = chars uri;
+    manifest = names_manifest (attribute rows x (codes "Type"));
+    steps = steps;
+    digest = digest;
+    digest_row = value.0;
+    expected = expected;
+  })
 
 -- SignedInfo: section 4.4
 unfoldable pub info_fields : List RowOf → ℕ → Result InfoFields FieldRefusal
@@ -192,7 +200,13 @@ info_fields rows x = do
   authentication ← signature_method rows second.0
   references ← one_or_more (λ y. TooManyReferences) rows element.Reference (reference rows) 256 second.1
   nothing ← at_end rows references.1
-  Ok (record { canon = canonicalization.method; prefixes = canonicalization.prefixes; mac = authentication.mac; bits = authentication.bits; references = references.0 })
+  Ok (record {
+    canon = canonicalization.method;
+    prefixes = canonicalization.prefixes;
+    mac = authentication.mac;
+    bits = authentication.bits;
+    references = references.0;
+  })
 
 -- the contents of the KeyName elements, in order; other elements are passed over whole: section 4.5
 unfoldable pub key_names : List RowOf → List ℕ → Result (List (List ℕ)) FieldRefusal
@@ -221,7 +235,18 @@ key_info_if rows (Some x) = key_info rows x
 
 abbrev pub joined_fields : (signature signed_info value_row : ℕ) → InfoFields → (value : List ℕ) → Option (List ℕ) → Fields
 joined_fields signature signed_info value_row info value key_name =
-    record { signature = signature; signed_info = signed_info; value_row = value_row; canon = info.canon; prefixes = info.prefixes; mac = info.mac; bits = info.bits; references = info.references; value = value; key_name = key_name }
+    record {
+      signature = signature;
+      signed_info = signed_info;
+      value_row = value_row;
+      canon = info.canon;
+      prefixes = info.prefixes;
+      mac = info.mac;
+      bits = info.bits;
+      references = info.references;
+      value = value;
+      key_name = key_name;
+    }
 
 -- Signature: section 4.1
 unfoldable pub fields_of : List RowOf → ℕ → Result Fields FieldRefusal

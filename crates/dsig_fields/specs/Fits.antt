@@ -1,6 +1,6 @@
 -- What holds of the fields that are read from a document, beyond what they say: each row that they name is an element of it, and
 -- they keep within the limits.
-use Rattle.std.specs.Prelude.{◌≡◌, ℕ, ◌<◌, ◌≤◌, true, false, List, [], length, Some}
+use Rattle.std.specs.Prelude.{◌≡◌, ℕ, ◌+◌, ◌<◌, ◌≤◌, true, false, List, [], ◌∷◌, length, map, Some}
 use Rattle.std.specs.List.{All}
 use Rattle.sig_base.specs.Methods.{is_exclusive}
 use Rattle.sig_base.specs.declared.method.CanonMethod.{CanonMethod}
@@ -38,6 +38,11 @@ pub record ReferenceFits (rows : List RowOf) (reference : Reference) : Type 0 wh
   pub few : length reference.steps ≤ 16
   pub steps : All (StepFits rows) reference.steps
 
+-- numbers that rise, from this one on
+abbrev pub Rises : ℕ → List ℕ → Type 0
+Rises from [] = Unit {0}
+Rises from (x ∷ rest) = (from ≤ x) × Rises (x + 1) rest
+
 pub record FieldsFit (rows : List RowOf) (fields : Fields) : Type 0 where
   pub signed_info : IsElement rows fields.signed_info
   pub value_row : IsElement rows fields.value_row
@@ -45,3 +50,6 @@ pub record FieldsFit (rows : List RowOf) (fields : Fields) : Type 0 where
   pub bits : (n : ℕ) → fields.bits ≡ Some n → may_keep fields.mac n ≡ true
   pub few : length fields.references ≤ 256
   pub references : All (ReferenceFits rows) fields.references
+  -- in document order: the DigestValues stand one behind the other, behind SignedInfo, and SignatureValue behind them all
+  pub digest_rows : Rises (fields.signed_info + 1) (map (λ (r : Reference). r.digest_row) fields.references)
+  pub value_behind : All (λ (r : Reference). r.digest_row < fields.value_row) fields.references

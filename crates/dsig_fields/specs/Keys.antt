@@ -3,6 +3,7 @@ use Rattle.std.specs.Prelude.{◌≡◌, ℕ, Bool, List, Option, Some, None, Re
 use Rattle.std.specs.Borrow.{Bor}
 use Rattle.digests_hmac.specs.KeyEntries.{KeyEntry}
 use Rattle.digests_hmac.specs.Keys.{named, only_of}
+use Rattle.uri_refs.specs.declared.target.Place.{Place}
 use Rattle.dsig_fields.specs.declared.key.KeyChoice.{KeyChoice}
 use Rattle.dsig_fields.specs.declared.key.KeyChoice.TheVariants.{NoKey, UnknownKey}
 use Rattle.dsig_fields.specs.declared.key.Question.{Question}
@@ -12,10 +13,17 @@ pub record QuestionOf : Type 0 where
   pub index : ℕ
   pub key_name : Option (List ℕ)
   pub keys : List KeyEntry
+  pub place : Place
   pub keep_views : Bool
 
 abbrev pub question_of : Question → QuestionOf
-question_of q = record { index = q.index; key_name = option_map (λ (name : Bor (List ℕ)). name.now) q.key_name; keys = q.keys.now; keep_views = q.keep_views }
+question_of q = record {
+  index = q.index;
+  key_name = option_map (λ (name : Bor (List ℕ)). name.now) q.key_name;
+  keys = q.keys.now;
+  place = q.place.now;
+  keep_views = q.keep_views;
+}
 
 -- the question's name, else that of the signature
 abbrev pub asked_name : Option (List ℕ) → Option (List ℕ) → Option (List ℕ)

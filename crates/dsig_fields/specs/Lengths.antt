@@ -1,7 +1,7 @@
 -- The content of HMACOutputLength: XML Signature 1.1, section 4.4.2, and an integer of XML Schema, part 2, section 3.3.13, without a sign.
 use Rattle.std.specs.Prelude.{ℕ, ◌+◌, ◌-◌, ◌*◌, ◌%◌, ◌==◌, Bool, ◌&&◌, nat_le, nat_lt, List, [], ◌∷◌, length, reverse, Option, Some, None, if◌then◌else◌}
 use Rattle.std.specs.List.{list_all}
-use Rattle.dsig_base64.specs.Loose.{is_space}
+use Rattle.sig_base.specs.Space.{is_space}
 use Rattle.sig_base.specs.declared.method.MacMethod.{MacMethod}
 use Rattle.digests_hmac.specs.Hash.{hash_of, digest_size}
 

@@ -9,3 +9,5 @@ pub mod Signatures
 pub mod Keys
 pub mod Holds
 pub mod Fits
+pub mod Content
+pub mod Code

@@ -2,7 +2,8 @@
 -- steps, each of which takes the children that are left and gives those that are left behind it.
 use Rattle.std.specs.Prelude.{◌≡◌, ◌==◌, ◌-◌, ℕ, Bool, false, true, ◌&&◌, List, [], ◌∷◌, Option, Some, None, Result, Ok, Err, if◌then◌else◌, bytes_eq, option_map}
 use Rattle.std.specs.List.{find, list_all}
-use Rattle.dsig_base64.specs.Loose.{is_space}
+use Rattle.sig_base.specs.Outcomes as outcomes
+use Rattle.sig_base.specs.Space.{is_space}
 use Rattle.xml_doc.specs.Axes.{axis_rows}
 use Rattle.xml_doc.specs.Fields.{attribute_rows}
 use Rattle.xml_doc.specs.Kinds.{is_element}
@@ -102,7 +103,8 @@ at_end rows xs = do
   none_left left
 
 -- any number of elements of this name up to `room`, each read in its turn; one more is too many
-unfoldable pub many : {A : Type 0} → (too_many : ℕ → FieldRefusal) → List RowOf → ElementName → (ℕ → Result A FieldRefusal) → (room : ℕ) → List ℕ → Result (List A × List ℕ) FieldRefusal
+unfoldable pub many : {A : Type 0} → (too_many : ℕ → FieldRefusal) → List RowOf → ElementName → (ℕ → Result A FieldRefusal) → (room : ℕ)
+    → List ℕ → Result (List A × List ℕ) FieldRefusal
 many too_many rows name read room [] = Ok ([], [])
 many too_many rows name read room (y ∷ rest) =
     if is_named rows name y then (if room == 0 then Err (too_many y) else (do
@@ -113,7 +115,8 @@ many too_many rows name read room (y ∷ rest) =
     else (if is_passed rows y then many too_many rows name read room rest else Err (Extra y)))
 
 -- one or more elements of this name, at most `limit`
-unfoldable pub one_or_more : {A : Type 0} → (too_many : ℕ → FieldRefusal) → List RowOf → ElementName → (ℕ → Result A FieldRefusal) → (limit : ℕ) → List ℕ → Result (List A × List ℕ) FieldRefusal
+unfoldable pub one_or_more : {A : Type 0} → (too_many : ℕ → FieldRefusal) → List RowOf → ElementName → (ℕ → Result A FieldRefusal)
+    → (limit : ℕ) → List ℕ → Result (List A × List ℕ) FieldRefusal
 one_or_more too_many rows name read limit xs = do
   first ← required rows name xs
   one ← read first.0
@@ -134,10 +137,8 @@ Refuses Memory outcome = Unit {0}
 Refuses refusal outcome = outcome ≡ Err refusal
 
 abbrev pub Gives : {T A : Type 0} → (T → A) → Result T FieldRefusal → Result A FieldRefusal → Type 0
-Gives view (Ok x) outcome = outcome ≡ Ok (view x)
-Gives view (Err refusal) outcome = Refuses refusal outcome
+Gives view result outcome = outcomes.Gives Refuses view result outcome
 
 -- the same, and what is left of the children
 abbrev pub Reads : {T A : Type 0} → (T → A) → Result T FieldRefusal → List ℕ → Result (A × List ℕ) FieldRefusal → Type 0
-Reads view (Ok x) left outcome = outcome ≡ Ok (view x, left)
-Reads view (Err refusal) left outcome = Refuses refusal outcome
+Reads view result left outcome = Gives (λ x. (view x, left)) result outcome

@@ -2,7 +2,7 @@
 
 ghost use Rattle.std.specs.Prelude.{◌≡◌, ◌<◌, length, drop, IfOk, IfSome};
 ghost use Rattle.std.specs.List.{list_all};
-ghost use Rattle.dsig_base64.specs.Loose.{is_space};
+ghost use Rattle.sig_base.specs.Space.{is_space};
 ghost use Rattle.xml_doc.specs.Kinds.{is_element};
 ghost use Rattle.xml_doc.specs.Rows.{row_of};
 ghost use Rattle.dsig_fields.specs.Cursor.{Leaves, any_element, next_of};
@@ -11,7 +11,7 @@ ghost use Rattle.dsig_fields.specs.Reading as spec;
 use crate::element::is_named;
 use crate::names::ElementName;
 use crate::refusal::FieldRefusal;
-use crate::space::is_space;
+use sig_base::is_space;
 use std::marker::Model;
 use xml_doc::{Axis, AxisWalk, Doc, Kind, Row};
 

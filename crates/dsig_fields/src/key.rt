@@ -4,6 +4,7 @@ ghost use Rattle.dsig_fields.specs.Keys as spec;
 
 use crate::fields::Fields;
 use digests_hmac::{Key, KeyTable};
+use uri_refs::Place;
 
 /// What is asked of a validation.
 #[derive(Drop)]
@@ -14,6 +15,8 @@ pub struct Question<'q> {
     pub key_name: Option<&'q str>,
     /// The keys.
     pub keys: &'q KeyTable,
+    /// Where the URIs of References lead.
+    pub place: &'q Place,
     /// Whether the views are wanted.
     pub keep_views: bool,
 }

@@ -1,7 +1,7 @@
 //! KeyInfo, of which the first KeyName is read.
 
 ghost use Rattle.std.specs.Prelude.{◌≡◌, ◌<◌, length, IfSome};
-ghost use Rattle.dsig_fields.specs.Cursor.{name_at};
+ghost use Rattle.dsig_fields.specs.Code.Cursor.{name_at};
 ghost use Rattle.dsig_fields.specs.Fields as spec;
 ghost use Rattle.dsig_fields.specs.Reading.{Gives};
 

@@ -5,9 +5,8 @@ ghost use Rattle.std.specs.List.{list_all};
 ghost use Rattle.digests_hmac.specs.Hash.{digest_size, hash_of};
 ghost use Rattle.dsig_fields.specs.Lengths as spec;
 
-use crate::space::is_space;
 use digests_hmac::output_bits;
-use sig_base::MacMethod;
+use sig_base::{MacMethod, is_space};
 
 /// More bits than any HMAC has. A number stops growing here, so that a text of any length is read.
 const TOO_MANY_BITS: u32 = 513;

@@ -10,17 +10,16 @@ mod element;
 mod fields;
 mod key;
 mod key_info;
+pub mod laws;
 mod lengths;
 mod methods;
 mod names;
-mod prefixes;
 mod read;
 mod references;
 mod refusal;
 mod repeated;
 mod signatures;
 mod simple;
-mod space;
 #[cfg(test)]
 mod tests;
 mod transforms;

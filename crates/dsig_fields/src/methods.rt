@@ -9,12 +9,11 @@ use crate::children::Children;
 use crate::fields::{Authentication, Canonicalization};
 use crate::lengths::length_in;
 use crate::names::ElementName;
-use crate::prefixes::names_in;
 use crate::refusal::FieldRefusal;
 use crate::simple::simple_text;
 use sig_base::{
     CanonMethod, DigestMethod, MacMethod, Members, NoMemory, PrefixList, canon_method_of,
-    digest_method_of, mac_method_of,
+    digest_method_of, mac_method_of, names_in,
 };
 use std::alloc::Global;
 use xml_doc::Doc;

@@ -23,6 +23,7 @@ pub fn read_fields(alloc: Global, doc: &Doc<'_>, signature: u32) -> Result<Field
     ensures fields { Gives (λ f. f) result (spec.fields_of doc.now signature) }
     ensures fit { IfOk result (λ f. FieldsFit doc.now f) }
 {
+    let _count = doc.rows();
     let mut children = Children::of(doc, signature);
     let signed_info = children.required(doc, ElementName::SignedInfo)?;
     let info = info_fields(alloc, doc, signed_info)?;

@@ -1,7 +1,8 @@
 //! Elements of which one or more stand side by side.
 
 ghost use Rattle.std.specs.Prelude.{◌≡◌, ◌-◌, ◌<◌, length};
-ghost use Rattle.dsig_fields.specs.Cursor.{Leaves, with_front};
+ghost use Rattle.dsig_fields.specs.Cursor.{Leaves};
+ghost use Rattle.dsig_fields.specs.Code.Cursor.{with_front};
 ghost use Rattle.dsig_fields.specs.Reading as spec;
 
 use crate::children::Children;
@@ -69,7 +70,8 @@ fn read_more<T: Repeated>(
     children: &mut Children<'_>,
     members: &mut Members<T>,
 ) -> Result<(), FieldRefusal>
-    ensures { Leaves result (members.new, children.new) (with_front members.old (spec.many T.excess doc.now T.NAME (T.outcome doc.now) (T.LIMIT - length members.old) children.old)) }
+    ensures { Leaves result (members.new, children.new)
+        (with_front members.old (spec.many T.excess doc.now T.NAME (T.outcome doc.now) (T.LIMIT - length members.old) children.old)) }
 {
     while let Some(y) = children.optional(doc, T::NAME)? {
         if members.len() >= T::LIMIT {

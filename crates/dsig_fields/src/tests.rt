@@ -1,6 +1,5 @@
 use crate::lengths::length_in;
-use crate::prefixes::names_in;
-use sig_base::MacMethod;
+use sig_base::{MacMethod, names_in};
 use std::alloc::Global;
 
 /// Whether the content gives these bits of an HMAC with SHA-256.

@@ -202,6 +202,11 @@ has_in_zeros n size words e l k = has-bits_of words size k ∙ elim (cases_lt k 
 pub range_at_end : (from until i k : ℕ) → until ≤ i → i ≤ until → (nat_le from k && nat_lt k i) ≡ (nat_le from k && nat_lt k until)
 range_at_end from until i k h l = let e : i ≡ until = omega arith in rw e
 
+-- one number less of a range
+pub range_without : (from i k : ℕ) (b : Bool) → from ≤ i
+    → (not (k == i) && (b && not (nat_le from k && nat_lt k i))) ≡ (b && not (nat_le from k && nat_lt k (i + 1)))
+range_without from i k b h = grind (arith, nat_tests)
+
 -- all numbers below n, beside none
 pub range_of_all : (n k : ℕ) (b : Bool) → b ≡ false → ((nat_le 0 k && nat_lt k n) || b) ≡ nat_lt k n
 range_of_all n k b e = rw (e, le-leb 0 k (omega arith)) (or_false (nat_lt k n))

@@ -71,6 +71,18 @@ impl Bits {
         }
     }
 
+    /// Makes the numbers from `from` to before `until` no members.
+    pub fn remove_range(&mut self, from: u32, until: u32)
+        requires ordered { from ≤ until }
+        requires within { until ≤ length self.old }
+        ensures members { (k : ℕ) → has self.new k ≡ (has self.old k && not (nat_le from k && nat_lt k until)) }
+        ensures size { length self.new ≡ length self.old }
+    {
+        for i in from..until {
+            self.remove(i);
+        }
+    }
+
     /// Makes the members of another set members.
     pub fn union_with(&mut self, other: &Bits)
         requires { length self.old ≡ length other.now }
@@ -122,7 +134,8 @@ fn and_words(words: &mut [u64], others: &[u64])
 /// Clears each bit of a word that is set in the other.
 fn clear_words(words: &mut [u64], others: &[u64])
     requires { length words.old ≡ length others.now }
-    ensures { (k : ℕ) → slice_index words.new k ≡ bit_xor (slice_index words.old k) (bit_and (slice_index words.old k) (slice_index others.now k)) }
+    ensures { (k : ℕ) → slice_index words.new k ≡ bit_xor (slice_index words.old k)
+        (bit_and (slice_index words.old k) (slice_index others.now k)) }
 {
     for k in 0..words.len() {
         words[k] ^= words[k] & others[k];

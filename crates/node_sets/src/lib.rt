@@ -16,6 +16,8 @@
 mod bits;
 mod set;
 mod span;
+#[cfg(test)]
+mod tests;
 
 pub use set::{NodeSet, SetView};
 pub use span::Span;

@@ -100,6 +100,15 @@ impl<'d> NodeSet<'d> {
         self.span = self.span.join(Span { from: i, until });
     }
 
+    /// Takes row `i` and the rows below it out of the set. It takes no memory.
+    pub fn remove_subtree(&mut self, i: u32)
+        requires { i < length self.old.rows }
+        ensures { ChangesTo self.old self.new (λ k. has self.old.members k && not (in_subtree self.old.rows i k)) }
+    {
+        let until = self.doc.behind(i);
+        self.bits.remove_range(i, until);
+    }
+
     /// Takes the comments out of the set.
     pub fn drop_comments(&mut self)
         ensures { ChangesTo self.old self.new (λ k. has self.old.members k && not (is_comment (row_at self.old.rows k).kind)) }
@@ -147,8 +156,8 @@ impl<'d> NodeSet<'d> {
         SetView { set: self }
     }
 
-    /// A range that has all rows of the set.
-    fn span(&self) -> Span
+    /// A range of row numbers that has all rows of the set, so that a walk needn't go over the whole document.
+    pub fn span(&self) -> Span
         ensures members { Spanned self.now.members result.from result.until }
         ensures within { result.until ≤ length self.now.rows }
     {
@@ -185,7 +194,7 @@ impl<'v> SetView<'v> {
         self.doc().rows()
     }
 
-    /// A range of row numbers that has all rows of the set, so that a walk needn't go over the whole document.
+    /// The range of the set, as [`NodeSet::span`] has it.
     pub fn span(&self) -> Span
         ensures members { Spanned self.now.set.now.members result.from result.until }
         ensures within { result.until ≤ length self.now.set.now.rows }

@@ -1,4 +1,10 @@
 pub mod Counts
 pub mod Methods
+pub mod Names
 pub mod Options
+pub mod Outcomes
 pub mod Puts
+pub mod Space
+pub mod Prefixes
+pub mod Lines
+pub mod LineFaults

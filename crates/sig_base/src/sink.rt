@@ -4,8 +4,6 @@ ghost use Rattle.std.specs.List.{flat_map};
 ghost use Rattle.std.specs.Borrow.{Bor};
 ghost use Rattle.sig_base.specs.Puts.{Puts, PutsPiece};
 
-use crate::memory::NoMemory;
-
 /// What a sink answers to a piece.
 #[derive(Clone, Copy, Debug, PartialEq, Eq)]
 pub enum Put {
@@ -41,19 +39,4 @@ pub fn put_pieces<S: OctetSink>(pieces: &[&[u8]], sink: &mut S) -> Put
         }
     }
     Put::Done
-}
-
-/// Why a canonical form was not written whole.
-#[derive(Clone, Copy, Debug, PartialEq, Eq)]
-pub enum EachFault {
-    /// The sink refused a piece.
-    SinkRefused,
-    /// Memory that was asked for was not given.
-    NoMemory,
-}
-
-impl From<NoMemory> for EachFault {
-    fn from(_error: NoMemory) -> EachFault {
-        EachFault::NoMemory
-    }
 }

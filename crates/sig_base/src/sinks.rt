@@ -1,5 +1,5 @@
 //! Sinks in memory.
-ghost use Rattle.std.specs.Prelude.{◌≡◌, ℕ, ◌-◌, ◌^◌, List, [], length, min};
+ghost use Rattle.std.specs.Prelude.{◌≡◌, ℕ, ◌-◌, ◌^◌, List, [], ◌∷◌, length, min};
 
 use crate::lists::Octets;
 use crate::sink::{OctetSink, Put};
@@ -93,7 +93,8 @@ impl OctetSink for LenSink {
 
     ghost refusals = { λ _. 0 };
 
-    ghost makes = { λ _ m. m };
+    // a count, as the only member of a list
+    ghost makes = { λ _ m. min (length m) (2 ^ 64 - 1) ∷ [] };
 
     fn put(&mut self, piece: &[u8]) -> Put {
         self.count = self.count.saturating_add(piece.len() as u64);

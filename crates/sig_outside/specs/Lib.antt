@@ -3,7 +3,7 @@ pub mod Counted
 pub mod Fetches
 pub mod Keeps
 pub mod Writes
-pub mod Readings
 pub mod MemStates
 pub mod Pairs
 pub mod MemViews
+pub mod Code

@@ -17,4 +17,10 @@ abbrev pub HasRoom : sink.Inside → Type 0
 HasRoom s = (vec_len s.bytes ≤ s.room) × (s.room ≤ vec_capacity s.bytes)
 
 abbrev pub folder_state : folder.Inside → FolderState
-folder_state s = record { files = map pair_of s.files.items; asked = map string_bytes s.asked.items; failing = s.failing.items; calls = s.calls; faults = s.faults }
+folder_state s = record {
+  files = map pair_of s.files.items;
+  asked = map string_bytes s.asked.items;
+  failing = s.failing.items;
+  calls = s.calls;
+  faults = s.faults;
+}

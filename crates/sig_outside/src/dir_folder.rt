@@ -1,7 +1,7 @@
 //! The files below the current directory, as a folder.
 ghost use Rattle.std.specs.Prelude.{◌≡◌, None, []};
 ghost use Rattle.std.specs.Option.{ForSome};
-ghost use Rattle.sig_outside.specs.Readings.{ReadsWithin};
+ghost use Rattle.sig_outside.specs.Code.Readings.{ReadsWithin};
 
 use crate::{Fetch, Folder};
 use std::alloc::Global;

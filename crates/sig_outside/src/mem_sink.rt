@@ -73,7 +73,8 @@ impl Sink for MemSink {
     fn write_all(&mut self, piece: &[u8]) -> Wrote
         ensures written { Writes piece.now result (Some self.old.written) (Some self.new.written) }
         ensures cause { WriteCounts result self.old.faults self.new.faults }
-        ensures listed { (result ≡ Wrote.Failed) ↔ (Contains self.old.failing self.old.calls ⊎ (self.old.room < length self.old.written + length piece.now)) }
+        ensures listed { (result ≡ Wrote.Failed) ↔ (Contains self.old.failing self.old.calls ⊎
+            (self.old.room < length self.old.written + length piece.now)) }
         ensures no_octet { result ≡ Wrote.Failed → self.new.written ≡ self.old.written }
         ensures raised { result ≡ Wrote.Failed → self.new.faults ≡ one_more self.old.faults }
         ensures counted { self.new.calls ≡ one_more self.old.calls }

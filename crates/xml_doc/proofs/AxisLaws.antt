@@ -8,7 +8,7 @@ use Rattle.xml_doc.specs.Shape.{row_at, IsWellShaped}
 module _ (rows : List RowOf) (w : IsWellShaped rows) where
   parent_below : (x : ℕ) → x < length rows → (row_at rows x).parent ≤ x
   parent_below zero h = let e = w.root_parent in omega arith
-  parent_below (suc x) h = let b = w.parent_before (suc x) (omega arith) h in omega arith
+  parent_below (suc x) h = let b = w.nesting.parent_before (suc x) (omega arith) h in omega arith
 
   -- a subtree lies in that of each row above
   climbed_above : (n x : ℕ) → x < length rows → (climbed rows n x ≤ x) × ((row_at rows x).last ≤ (row_at rows (climbed rows n x)).last)
@@ -20,7 +20,7 @@ module _ (rows : List RowOf) (w : IsWellShaped rows) where
       let above = climbed_above n p (omega arith) in
       let from = above.0 in
       let up = above.1 in
-      let within = w.last_within x h in
+      let within = w.nesting.last_within x h in
       (omega arith, omega arith)
 
   -- whoever is an ancestor is found by climbing. m bounds x
@@ -29,11 +29,11 @@ module _ (rows : List RowOf) (w : IsWellShaped rows) where
   found_to zero x y le h lt within = absurd (omega arith)
   found_to (suc m) x y le h lt within =
       let p = (row_at rows x).parent in
-      let before = w.parent_before x (omega arith) h in
+      let before = w.nesting.parent_before x (omega arith) h in
       elim (cases_order y p) [
         | inl same ↦ (1, sym same)
         | inr (inl below) ↦ (let found = found_to m p y (omega arith) (omega arith) below (omega arith) in (suc found.0, found.1))
-        | inr (inr above) ↦ (let gone = w.ended x y h above lt in absurd (omega arith))
+        | inr (inr above) ↦ (let gone = w.nesting.ended x y h above lt in absurd (omega arith))
       ]
 
   pub ancestors_are : AncestorsAreParents rows
@@ -50,14 +50,14 @@ module _ (rows : List RowOf) (w : IsWellShaped rows) where
         let above = climbed_above n x h in
         let le : y ≤ x = rw (← is) above.0 in
         let last : (row_at rows x).last ≤ (row_at rows y).last = rw (← is) above.1 in
-        let from = w.last_from x h in
+        let from = w.nesting.last_from x h in
         and_from _ _ (lt-ltb y x (omega arith)) (le-leb x (row_at rows y).last (omega arith))),
   )
 
   pub five_partition : FiveAxesPartition rows
   five_partition x y here there plain =
-      let x_from = w.last_from x here in
-      let y_from = w.last_from y there in
+      let x_from = w.nesting.last_from x here in
+      let y_from = w.nesting.last_from y there in
       let lx = (row_at rows x).last in
       let ly = (row_at rows y).last in
       elim (cases_order x y) [

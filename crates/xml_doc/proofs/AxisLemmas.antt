@@ -49,8 +49,8 @@ module _ (rows : List RowOf) (w : IsWellShaped rows) where
   no_sibling_below : (y z : ℕ) → 0 < y → y < z → z ≤ (row_at rows y).last → y < length rows → (row_at rows z).parent ≡ (row_at rows y).parent → ⊥
   no_sibling_below y z h k l n e =
       let b = last_below rows w y n in
-      let p = w.parent_before y h n in
-      let f = w.ended z y (omega arith) (omega arith) k in
+      let p = w.nesting.parent_before y h n in
+      let f = w.nesting.ended z y (omega arith) (omega arith) k in
       omega arith
 
   none_below_child : (x y z : ℕ) → on_axis Child rows x y ≡ true → y < length rows → y + 1 ≤ z → z < (row_at rows y).last + 1 → on_axis Child rows x z ≡ false
@@ -82,7 +82,7 @@ module _ (rows : List RowOf) (w : IsWellShaped rows) where
   no_ancestor_between x y z h n k l t =
       let p = and_parts (nat_lt z x) (nat_le x (row_at rows z).last) t in
       let q = leb-true x (row_at rows z).last p.1 in
-      let e = w.ended y z n k l in
+      let e = w.nesting.ended y z n k l in
       omega arith
 
   ancestor_below : (x y : ℕ) → is_ancestor rows x y ≡ true → y ≤ x
@@ -110,7 +110,7 @@ module _ (rows : List RowOf) (w : IsWellShaped rows) where
   no_child_before x z h l = false_from_ne_true _ (λ t.
       let p = child_parts x z t in
       let up = p.1 in
-      let b = w.parent_before z p.0 (omega arith) in
+      let b = w.nesting.parent_before z p.0 (omega arith) in
       omega arith)
 
   pub no_ancestor_behind : (x z : ℕ) → x < length rows → (row_at rows x).parent + 1 ≤ z → on_axis Ancestor rows x z ≡ false
@@ -127,8 +127,8 @@ module _ (rows : List RowOf) (w : IsWellShaped rows) where
   pub no_following_behind : (x z : ℕ) → z < length rows → (row_at rows (row_at rows x).parent).last + 1 ≤ z → on_axis FollowingSibling rows x z ≡ false
   no_following_behind x z h l = false_from_ne_true _ (λ t.
       let q = sibling_parts x z (and_parts (nat_lt x z) (are_siblings rows x z) t).1 in
-      let b = w.last_from z h in
-      let i : (row_at rows z).last ≤ (row_at rows (row_at rows x).parent).last = rw q.2 (w.last_within z h) in
+      let b = w.nesting.last_from z h in
+      let i : (row_at rows z).last ≤ (row_at rows (row_at rows x).parent).last = rw q.2 (w.nesting.last_within z h) in
       omega arith)
 
   pub no_preceding_before : (x z : ℕ) → x < length rows → z < (row_at rows x).parent + 1 → on_axis PrecedingSibling rows x z ≡ false
@@ -136,12 +136,12 @@ module _ (rows : List RowOf) (w : IsWellShaped rows) where
       let p = and_parts (nat_lt z x) (are_siblings rows x z) t in
       let q = sibling_parts x z p.1 in
       let lt = ltb-true z x p.0 in
-      let b = w.parent_before z q.1 (omega arith) in
+      let b = w.nesting.parent_before z q.1 (omega arith) in
       let e = q.2 in
       omega arith)
 
   pub no_preceding_behind : (x z : ℕ) → x ≤ z → z < length rows → on_axis Preceding rows x z ≡ false
   no_preceding_behind x z h l = false_from_ne_true _ (λ t.
       let p = ltb-true (row_at rows z).last x (and_parts (nat_lt (row_at rows z).last x) (not (is_field_at rows z)) t).0 in
-      let b = w.last_from z l in
+      let b = w.nesting.last_from z l in
       omega arith)

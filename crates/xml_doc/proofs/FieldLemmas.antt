@@ -73,17 +73,17 @@ module _ (rows : List RowOf) (w : IsWellShaped rows) where
   -- between an element and a field of it stand only fields of it
   field_parent : (i j : ℕ) → i < length rows → is_field (row_at rows i).kind ≡ true → (row_at rows i).parent < j → j < i → (row_at rows j).parent ≡ (row_at rows i).parent
   field_parent i j lt is gt before =
-      let above = w.parent_before j (omega arith) (omega arith) in
-      let reach = w.last_from i lt in
-      let within = w.last_within i lt in
+      let above = w.nesting.parent_before j (omega arith) (omega arith) in
+      let reach = w.nesting.last_from i lt in
+      let within = w.nesting.last_within i lt in
       elim (cases_lt (row_at rows j).parent (row_at rows i).parent) [
-        | inl higher ↦ let gone = w.ended j (row_at rows i).parent (omega arith) higher gt in omega arith
+        | inl higher ↦ let gone = w.nesting.ended j (row_at rows i).parent (omega arith) higher gt in omega arith
         | inr not_higher ↦ elim (cases_lt (row_at rows i).parent (row_at rows j).parent) [
           | inr same ↦ omega arith
           | inl lower ↦
               let q = (row_at rows j).parent in
-              let no_field = inner_no_field (row_at rows q).kind (w.parent_inner j (omega arith)) in
-              absurd (false≢true (sym no_field ∙ w.fields_first i q lt is lower (omega arith)))
+              let no_field = inner_no_field (row_at rows q).kind (w.nesting.parent_inner j (omega arith)) in
+              absurd (false≢true (sym no_field ∙ w.fields.fields_first i q lt is lower (omega arith)))
         ]
       ]
 
@@ -95,7 +95,7 @@ module _ (rows : List RowOf) (w : IsWellShaped rows) where
       elim (cases_lt end j) [
         | inr same ↦ let e : j ≡ end = omega arith in absurd (false≢true (sym (r.stop (omega arith)) ∙ ap (is_namespace_of rows x) (sym e) ∙ t))
         | inl behind ↦
-            let first = w.namespaces_first j end lt kind (let up = parts.1 in omega arith) behind in
+            let first = w.fields.namespaces_first j end lt kind (let up = parts.1 in omega arith) behind in
             let up = field_parent j end lt (ap is_field kind) (let up = parts.1 in omega arith) behind in
             absurd (false≢true (sym (r.stop (omega arith)) ∙ and_from _ _ (ap is_namespace first) (eq-eqb _ x (up ∙ parts.1))))
       ])
@@ -109,7 +109,7 @@ module _ (rows : List RowOf) (w : IsWellShaped rows) where
       elim (cases_lt end j) [
         | inr same ↦ let e : j ≡ end = omega arith in absurd (false≢true (sym (r.stop (omega arith)) ∙ ap (is_attribute_of rows x) (sym e) ∙ t))
         | inl behind ↦
-            let first = w.fields_first j end lt field (let up = parts.1 in omega arith) behind in
+            let first = w.fields.fields_first j end lt field (let up = parts.1 in omega arith) behind in
             let up = field_parent j end lt field (let up = parts.1 in omega arith) behind in
             elim (field_is_either (row_at rows end).kind first) [
               | inl is ↦ absurd (false≢true (sym (no_namespace_behind x mid here n end reached (omega arith)) ∙ and_from _ _ is (eq-eqb _ x (up ∙ parts.1))))
@@ -118,7 +118,7 @@ module _ (rows : List RowOf) (w : IsWellShaped rows) where
       ])
 
   not_of_earlier : (x k : ℕ) → 1 ≤ k → k < x + 1 → k < length rows → (b : Bool) → (b && eqb (row_at rows k).parent x) ≡ false
-  not_of_earlier x k pos le lt b = false_from_ne_true _ (λ t. let up = (both b (row_at rows k).parent x t).1 in let before = w.parent_before k pos lt in omega arith)
+  not_of_earlier x k pos le lt b = false_from_ne_true _ (λ t. let up = (both b (row_at rows k).parent x t).1 in let before = w.nesting.parent_before k pos lt in omega arith)
 
   -- before an element's namespace rows, which begin right behind it, there is none of them
   pub no_namespace_before : (x k : ℕ) → x < length rows → k < x + 1 → is_namespace_of rows x k ≡ false

@@ -115,7 +115,7 @@ module _ (rows : List RowOf) (w : IsWellShaped rows) (id : List ℕ) where
   giver_behind (suc k) t = omega arith
 
   parent_within : (k : ℕ) → k < length rows → gives rows id k ≡ true → (row_at rows k).parent < k
-  parent_within k lt t = w.parent_before k (giver_behind k t) lt
+  parent_within k lt t = w.nesting.parent_before k (giver_behind k t) lt
 
   -- an attribute that gives the ID has an element that bears it, and the other way round
   bearer_of : (k : ℕ) → k < length rows → gives rows id k ≡ true → bears rows id (row_at rows k).parent ≡ true
@@ -124,7 +124,7 @@ module _ (rows : List RowOf) (w : IsWellShaped rows) (id : List ℕ) where
       let parts = and_parts (is_attribute (row_at rows k).kind) (gives_id id (row_at rows k)) t in
       let own : is_attribute_of rows e k ≡ true = and_from _ _ parts.0 (eq-eqb (row_at rows k).parent e refl) in
       let pos = giver_behind k t in
-      and_from _ _ (w.field_of_element k lt (field_of_giver k t))
+      and_from _ _ (w.fields.field_of_element k lt (field_of_giver k t))
       (any-filter (λ (a : ℕ). gives_id id (row_at rows a)) (is_attribute_of rows e) (range_with_len 1 (length rows - 1))
       ∙ any_range (λ (a : ℕ). is_attribute_of rows e a && gives_id id (row_at rows a)) 1 (length rows - 1) k pos (omega arith) (and_from _ _ own parts.1))
 
@@ -145,8 +145,8 @@ module _ (rows : List RowOf) (w : IsWellShaped rows) (id : List ℕ) where
     | inl before ↦ before
     | inr not_before ↦
         let below = parent_within k lt' u in
-        let field = w.fields_first j (row_at rows k).parent lt (field_of_giver j t) up (omega arith) in
-        absurd (false≢true (sym (inner_no_field _ (w.parent_inner k lt')) ∙ field))
+        let field = w.fields.fields_first j (row_at rows k).parent lt (field_of_giver j t) up (omega arith) in
+        absurd (false≢true (sym (inner_no_field _ (w.nesting.parent_inner k lt')) ∙ field))
   ]
 
   pub answer-nobody : SoFar rows id (length rows) None → NoElement ≡ answer_of (bearers rows id)

@@ -3,6 +3,7 @@ pub mod AxisLemmas
 pub mod FieldLemmas
 pub mod IdLemmas
 pub mod Numbers
+pub mod Ranges
 pub mod RowLemmas
 pub mod SearchLemmas
 pub mod ShapeLemmas

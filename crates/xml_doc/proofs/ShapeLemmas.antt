@@ -12,8 +12,8 @@ last_below_to : (rows : List RowOf) → IsWellShaped rows → (n i : ℕ) → i 
 last_below_to rows w n zero h k = let e = w.root_last in omega arith
 last_below_to rows w zero (suc i) h k = absurd (omega arith)
 last_below_to rows w (suc n) (suc i) h k =
-    let p : (row_at rows (suc i)).parent < suc i = w.parent_before (suc i) (omega arith) k in
-    let l = w.last_within (suc i) k in
+    let p : (row_at rows (suc i)).parent < suc i = w.nesting.parent_before (suc i) (omega arith) k in
+    let l = w.nesting.last_within (suc i) k in
     let b = last_below_to rows w n (row_at rows (suc i)).parent (omega arith) (omega arith) in
     omega arith
 
@@ -25,23 +25,23 @@ pub parent_of_found : (rows : List RowOf) → IsWellShaped rows → (i : ℕ) (r
 parent_of_found rows w i r e h =
     let l : i < length rows = slice_get_within rows i r (sym e) in
     let f : (row_at rows i).parent ≡ r.parent = ap (λ (q : RowOf). q.parent) (get_or_from_slice_get rows i r no_row (sym e)) in
-    let b = w.parent_before i h l in
+    let b = w.nesting.parent_before i h l in
     omega arith
 
 -- only the root and elements have rows below them: another row is the last of its subtree
 pub leaf_last : (rows : List RowOf) → IsWellShaped rows → (i : ℕ) → i < length rows → is_inner (row_at rows i).kind ≡ false → (row_at rows i).last ≡ i
 leaf_last rows w i lt leaf =
-    let reach = w.last_from i lt in
+    let reach = w.nesting.last_from i lt in
     let inside = last_below rows w i lt in
     elim (cases_lt i (row_at rows i).last) [
       | inr not_before ↦ omega arith
       | inl before ↦
-          let up = w.parent_before (i + 1) (omega arith) (omega arith) in
+          let up = w.nesting.parent_before (i + 1) (omega arith) (omega arith) in
           elim (cases_lt (row_at rows (i + 1)).parent i) [
-            | inl higher ↦ let gone = w.ended (i + 1) i (omega arith) higher (omega arith) in omega arith
+            | inl higher ↦ let gone = w.nesting.ended (i + 1) i (omega arith) higher (omega arith) in omega arith
             | inr not_higher ↦
                 let here : (row_at rows (i + 1)).parent ≡ i = omega arith in
-                let inner : is_inner (row_at rows i).kind ≡ true = ap (λ (m : ℕ). is_inner (row_at rows m).kind) (sym here) ∙ w.parent_inner (i + 1) (omega arith) in
+                let inner : is_inner (row_at rows i).kind ≡ true = ap (λ (m : ℕ). is_inner (row_at rows m).kind) (sym here) ∙ w.nesting.parent_inner (i + 1) (omega arith) in
                 absurd (false≢true (sym leaf ∙ inner))
           ]
     ]

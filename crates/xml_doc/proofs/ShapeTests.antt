@@ -224,31 +224,39 @@ module _ (rows : List RowOf) where
         root_kind = root_is (kind 0) root_first.1;
         root_parent = eqb-true (parent 0) 0 root_own.1;
         root_last = eqb-true (last 0 + 1) n root_parts.1;
-        parent_before = λ (i : ℕ) pos lt. ltb-true (parent i) i (implied _ _ (each_below _ n t.parent_before i lt) (lt-ltb 0 i pos));
-        last_from = λ (i : ℕ) lt. leb-true i (last i) (and_parts (leb i (last i)) (leb (last i) (last (parent i))) (each_below _ n t.last i lt)).0;
-        last_within = λ (i : ℕ) lt. leb-true (last i) (last (parent i)) (and_parts (leb i (last i)) (leb (last i) (last (parent i))) (each_below _ n t.last i lt)).1;
-        ended = λ (i j : ℕ) lt up before. ltb-true (last j) i (implied _ _ (each_below _ i (each_below _ n t.ended i lt) j before) (lt-ltb (parent i) j up));
-        parent_inner = λ (i : ℕ) lt. (and_parts (is_inner (kind (parent i))) (implies (is_field (kind i)) (is_element (kind (parent i)))) (each_below _ n t.parents i lt)).0;
-        field_of_element = λ (i : ℕ) lt is. implied _ _ (and_parts (is_inner (kind (parent i))) (implies (is_field (kind i)) (is_element (kind (parent i)))) (each_below _ n t.parents i lt)).1 is;
-        fields_first = λ (i j : ℕ) lt is up before. implied _ _ (each_below _ i (implied _ _ (each_below _ n t.fields_first i lt) is) j before) (lt-ltb (parent i) j up);
         one_root = λ (i : ℕ) pos lt is. fails _ (implied _ _ (each_below _ n t.one_root i lt) (lt-ltb 0 i pos)) (ap is_root is);
-        namespaces_first = λ (i j : ℕ) lt is up before. namespace_is (kind j) (implied _ _ (each_below _ i (implied _ _ (each_below _ n t.namespaces_first i lt) (ap is_namespace is)) j before) (lt-ltb (parent i) j up));
-        namespace_order = λ (i : ℕ) lt is then_is same. less_is _ (implied _ _ (each_below _ n t.namespace_order i (omega arith)) (and_from _ _ (and_from _ _ (ap is_namespace is) (ap is_namespace then_is)) (eq-eqb _ _ same)));
-        attribute_order = λ (i : ℕ) lt is then_is same. less_is _ (implied _ _ (each_below _ n t.attribute_order i (omega arith)) (and_from _ _ (and_from _ _ (ap is_attribute is) (ap is_attribute then_is)) (eq-eqb _ _ same)));
-        inherits = λ (j e : ℕ) e_lt e_is j_lt j_is same named.
-            let other : not (bytes_eq (row_at rows j).local_name []) ≡ true = holds_not _ (λ u. named (bytes_same _ [] u)) in
-            let found = one_below _ n (implied _ _ (each_below _ n (implied _ _ (each_below _ n t.inherits e e_lt) (ap is_element e_is)) j j_lt) (and_from _ _ (and_from _ _ (ap is_namespace j_is) (eq-eqb _ _ same)) other)) in
-            let own = bound e (row_at rows j).local_name found.0 found.2 in
-            (found.0, found.1, own.0, own.1, own.2);
-        xml_bound = λ (e : ℕ) lt is.
-            let found = one_below _ n (implied _ _ (each_below _ n t.xml_bound e lt) (ap is_element is)) in
-            let parts = and_parts (binds e (codes "xml") found.0) (bytes_eq (row_at rows found.0).value xml_name) found.2 in
-            let own = bound e (codes "xml") found.0 parts.0 in
-            (found.0, found.1, own.0, own.1, own.2, bytes_same _ _ parts.1);
-        default_named = λ (i : ℕ) lt is default empty. fails _ (implied _ _ (each_below _ n t.default_named i lt) (and_from _ _ (ap is_namespace is) ((bytes_eq-Decides _ []).1 default))) ((bytes_eq-Decides _ []).1 empty);
         document_element = document_element_by t.document_element;
+        nesting = record {
+          parent_before = λ (i : ℕ) pos lt. ltb-true (parent i) i (implied _ _ (each_below _ n t.parent_before i lt) (lt-ltb 0 i pos));
+          last_from = λ (i : ℕ) lt. leb-true i (last i) (and_parts (leb i (last i)) (leb (last i) (last (parent i))) (each_below _ n t.last i lt)).0;
+          last_within = λ (i : ℕ) lt. leb-true (last i) (last (parent i)) (and_parts (leb i (last i)) (leb (last i) (last (parent i))) (each_below _ n t.last i lt)).1;
+          ended = λ (i j : ℕ) lt up before. ltb-true (last j) i (implied _ _ (each_below _ i (each_below _ n t.ended i lt) j before) (lt-ltb (parent i) j up));
+          parent_inner = λ (i : ℕ) lt. (and_parts (is_inner (kind (parent i))) (implies (is_field (kind i)) (is_element (kind (parent i)))) (each_below _ n t.parents i lt)).0;
+        };
+        fields = record {
+          field_of_element = λ (i : ℕ) lt is. implied _ _ (and_parts (is_inner (kind (parent i))) (implies (is_field (kind i)) (is_element (kind (parent i)))) (each_below _ n t.parents i lt)).1 is;
+          fields_first = λ (i j : ℕ) lt is up before. implied _ _ (each_below _ i (implied _ _ (each_below _ n t.fields_first i lt) is) j before) (lt-ltb (parent i) j up);
+          namespaces_first = λ (i j : ℕ) lt is up before. namespace_is (kind j) (implied _ _ (each_below _ i (implied _ _ (each_below _ n t.namespaces_first i lt) (ap is_namespace is)) j before) (lt-ltb (parent i) j up));
+          namespace_order = λ (i : ℕ) lt is then_is same. less_is _ (implied _ _ (each_below _ n t.namespace_order i (omega arith)) (and_from _ _ (and_from _ _ (ap is_namespace is) (ap is_namespace then_is)) (eq-eqb _ _ same)));
+          attribute_order = λ (i : ℕ) lt is then_is same. less_is _ (implied _ _ (each_below _ n t.attribute_order i (omega arith)) (and_from _ _ (and_from _ _ (ap is_attribute is) (ap is_attribute then_is)) (eq-eqb _ _ same)));
+        };
+        namespaces = record {
+          inherits = λ (j e : ℕ) e_lt e_is j_lt j_is same named.
+              let other : not (bytes_eq (row_at rows j).local_name []) ≡ true = holds_not _ (λ u. named (bytes_same _ [] u)) in
+              let found = one_below _ n (implied _ _ (each_below _ n (implied _ _ (each_below _ n t.inherits e e_lt) (ap is_element e_is)) j j_lt) (and_from _ _ (and_from _ _ (ap is_namespace j_is) (eq-eqb _ _ same)) other)) in
+              let own = bound e (row_at rows j).local_name found.0 found.2 in
+              (found.0, found.1, own.0, own.1, own.2);
+          xml_bound = λ (e : ℕ) lt is.
+              let found = one_below _ n (implied _ _ (each_below _ n t.xml_bound e lt) (ap is_element is)) in
+              let parts = and_parts (binds e (codes "xml") found.0) (bytes_eq (row_at rows found.0).value xml_name) found.2 in
+              let own = bound e (codes "xml") found.0 parts.0 in
+              (found.0, found.1, own.0, own.1, own.2, bytes_same _ _ parts.1);
+          default_named = λ (i : ℕ) lt is default empty. fails _ (implied _ _ (each_below _ n t.default_named i lt) (and_from _ _ (ap is_namespace is) ((bytes_eq-Decides _ []).1 default))) ((bytes_eq-Decides _ []).1 empty);
+        };
+        texts = record {
+          text_some = texts;
+          text_in_element = λ (i : ℕ) lt is. implied _ _ (each_below _ n t.text_in_element i lt) (ap is_text is);
+          texts_apart = λ (i : ℕ) lt is then_is same. fails _ (implied _ _ (each_below _ n t.texts_apart i (omega arith)) (and_from _ _ (ap is_text is) (ap is_text then_is))) (eq-eqb _ _ same);
+        };
         fit = λ (i : ℕ) lt. each_below _ n t.fit i lt;
-        text_some = texts;
-        text_in_element = λ (i : ℕ) lt is. implied _ _ (each_below _ n t.text_in_element i lt) (ap is_text is);
-        texts_apart = λ (i : ℕ) lt is then_is same. fails _ (implied _ _ (each_below _ n t.texts_apart i (omega arith)) (and_from _ _ (ap is_text is) (ap is_text then_is))) (eq-eqb _ _ same);
       }

@@ -14,7 +14,8 @@ use Rattle.xml_doc.specs.declared.ids.IdAnswer.TheVariants.{One, None, Several}
 abbrev pub is_id_name : RowOf → Bool
 is_id_name r =
     (bytes_eq r.uri xml_name && bytes_eq r.local_name (codes "id"))
-    || (bytes_eq r.uri [] && (bytes_eq r.local_name (codes "Id") || bytes_eq r.local_name (codes "ID") || bytes_eq r.local_name (codes "id")))
+    || (bytes_eq r.uri [] && (bytes_eq r.local_name (codes "Id") || bytes_eq r.local_name (codes "ID")
+    || bytes_eq r.local_name (codes "id")))
 
 -- the attribute is an ID, and its value is this one, octet by octet
 abbrev pub gives_id : List ℕ → RowOf → Bool

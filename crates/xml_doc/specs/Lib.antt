@@ -2,6 +2,7 @@ pub mod Kinds
 pub mod Rows
 pub mod Fits
 pub mod Shape
+pub mod Top
 pub mod Fields
 pub mod Values
 pub mod Ids

@@ -1,5 +1,5 @@
 -- A row of a document as contracts see it: with its texts as their UTF-8 octets. XPath 1.0, section 5, says what a node has.
-use Rattle.std.specs.Prelude.{ℕ, Bool, List}
+use Rattle.std.specs.Prelude.{ℕ, Bool, false, List, []}
 use Rattle.xml_doc.specs.declared.row.Row.{Row}
 use Rattle.xml_doc.specs.declared.row.Kind.{Kind}
 
@@ -16,6 +16,22 @@ pub record RowOf : Type 0 where
   pub body_from : ℕ
   pub body_until : ℕ
   pub empty_tag : Bool
+
+-- a row of which only its kind, its parent and its own number are said: nothing stands below it, and the rest is empty
+abbrev pub plain_row : Kind → ℕ → ℕ → RowOf
+plain_row kind parent number = record {
+  kind = kind;
+  parent = parent;
+  last = number;
+  prefix_text = [];
+  local_name = [];
+  uri = [];
+  value = [];
+  tag_from = 0;
+  body_from = 0;
+  body_until = 0;
+  empty_tag = false;
+}
 
 -- what a row of the program says, field by field
 abbrev pub row_of : Row → RowOf

@@ -11,10 +11,10 @@ use bumpalo::Bump;
 use sig_base::NoMemory;
 use std::marker::Model;
 
-/// The rows of a document, in an arena. Every call takes a row by its number, from 0 to below [`rows`](Doc::rows).
+/// The rows of a document, whose texts stand in an arena. Every call takes a row by its number, from 0 to below [`rows`](Doc::rows).
 #[derive(Drop)]
 pub struct Doc<'a> {
-    rows: &'a [Row<'a>],
+    rows: Vec<Row<'a>>,
 }
 
 impl<'a> Model for Doc<'a> {
@@ -24,20 +24,38 @@ impl<'a> Model for Doc<'a> {
 
     ghost Value = { List RowOf };
 
-    ghost view = { λ d. map row_of d.rows.now };
+    ghost view = { λ d. map row_of d.rows.items };
 
-    ghost invariant = { λ d. (length d.rows.now < 2 ^ 32) × IsWellShaped (map row_of d.rows.now) };
+    ghost invariant = { λ d. (length d.rows.items < 2 ^ 32) × IsWellShaped (map row_of d.rows.items) };
 }
 
 impl<'a> Doc<'a> {
-    /// Copies the rows of a document into the arena.
-    pub fn make(bump: &'a Bump, rows: &RowList<'a>) -> Result<Doc<'a>, NoMemory>
+    /// The document of these rows.
+    pub fn from_rows(rows: RowList<'a>) -> Doc<'a>
+        requires few { length rows < 2 ^ 32 }
+        requires shaped { IsWellShaped rows }
+        ensures { result ≡ rows.entry }
+    {
+        Doc {
+            rows: rows.into_rows(),
+        }
+    }
+
+    /// The document of a copy of these rows, whose texts stand in the arena.
+    pub fn make(_bump: &'a Bump, rows: &RowList<'a>) -> Result<Doc<'a>, NoMemory>
         requires few { length rows.now < 2 ^ 32 }
         requires shaped { IsWellShaped rows.now }
         ensures { IfOk result (λ d. d ≡ rows.now) }
     {
-        let rows = bump.try_alloc_slice_copy(rows.as_slice())?;
+        let rows = rows.copied()?;
         Ok(Doc { rows })
+    }
+
+    /// All rows.
+    fn all(&self) -> &[Row<'a>]
+        ensures { map row_of result.now ≡ self.now }
+    {
+        &self.rows
     }
 
     /// How many rows there are: at least one, and fewer than 2^32. What is said of the rows' order and nesting holds of
@@ -53,12 +71,13 @@ impl<'a> Doc<'a> {
     pub fn row(&self, i: u32) -> Option<Row<'a>>
         ensures { option_map row_of result ≡ slice_get self.now i }
     {
-        self.rows.get(i as usize).copied()
+        self.all().get(i as usize).copied()
     }
 
     /// The parent of a row (XPath 1.0 §5). `None` for the root, and from the number of rows on.
     pub fn parent(&self, i: u32) -> Option<u32>
-        ensures value { MatchOption result ((i ≡ 0) ⊎ (length self.now ≤ i)) (λ p. (0 < i) × (i < length self.now) × (p ≡ (row_at self.now i).parent)) }
+        ensures value { MatchOption result ((i ≡ 0) ⊎ (length self.now ≤ i))
+            (λ p. (0 < i) × (i < length self.now) × (p ≡ (row_at self.now i).parent)) }
         ensures before { IfSome result (λ p. p < i) }
     {
         let _count = self.rows();
@@ -75,7 +94,9 @@ impl<'a> Doc<'a> {
         ensures from { i ≤ result.now.last }
         ensures below { result.now.last < length self.now }
     {
-        &self.rows[i as usize]
+        let _count = self.rows();
+        let rows = self.all();
+        &rows[i as usize]
     }
 
     /// The number behind the last row of the row's subtree.
@@ -95,7 +116,8 @@ impl<'a> Doc<'a> {
         ensures { map row_of result.now ≡ subtree self.now i }
     {
         let last = self.at(i).last;
-        &self.rows[i as usize..last as usize + 1]
+        let rows = self.all();
+        &rows[i as usize..last as usize + 1]
     }
 
     /// The row's kind.

@@ -6,6 +6,7 @@ ghost use Rattle.xml_doc.specs.Rows.{row_of};
 
 use crate::doc::Doc;
 use crate::row::{Kind, Row};
+use sig_base::XML_NAME;
 
 /// The elements that bear an ID.
 #[derive(Clone, Copy, Debug, PartialEq, Eq)]
@@ -17,9 +18,6 @@ pub enum IdAnswer {
     /// Several elements bear it, and these are the first two in document order.
     Several(u32, u32),
 }
-
-/// The namespace name of the prefix `xml` (Namespaces in XML 1.0 §3).
-const XML_NAME: &str = "http://www.w3.org/XML/1998/namespace";
 
 /// Whether an attribute of that name is an ID.
 fn is_id_name(row: &Row<'_>) -> bool

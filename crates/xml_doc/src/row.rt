@@ -1,5 +1,5 @@
 //! Rows, and lists of them.
-ghost use Rattle.std.specs.Prelude.{◌≡◌, ◌<◌, ◌∷◌, ◌++◌, [], length, map, OnOk, OnErr, slice_get, slice_set, option_map};
+ghost use Rattle.std.specs.Prelude.{◌≡◌, ◌<◌, ◌∷◌, ◌++◌, [], length, map, IfOk, OnOk, OnErr, slice_get, slice_set, option_map};
 ghost use Rattle.xml_doc.specs.Rows.{row_of};
 
 use sig_base::NoMemory;
@@ -110,10 +110,18 @@ impl<'a> RowList<'a> {
         self.rows[k] = member;
     }
 
-    pub(crate) fn as_slice(&self) -> &[Row<'a>]
-        ensures { map row_of result.now ≡ self.now }
+    /// The rows themselves.
+    pub(crate) fn into_rows(self) -> Vec<Row<'a>>
+        ensures { map row_of result.items ≡ self.entry }
     {
-        &self.rows
+        self.rows
+    }
+
+    /// The rows once more.
+    pub(crate) fn copied(&self) -> Result<Vec<Row<'a>>, NoMemory>
+        ensures { IfOk result (λ rows. map row_of rows.items ≡ self.now) }
+    {
+        Ok(self.rows.clone()?)
     }
 }
 

@@ -5,10 +5,8 @@ ghost use Rattle.xml_doc.specs.Shape.{IsWellShaped};
 
 use crate::{Axis, Doc, IdAnswer, Kind, Row, RowList};
 use bumpalo::Bump;
-use sig_base::{NoMemory, Put, VecSink};
+use sig_base::{NoMemory, Put, VecSink, XML_NAME};
 use std::alloc::Global;
-
-const XML_NAME: &str = "http://www.w3.org/XML/1998/namespace";
 
 /// A row without a prefix, a namespace name and tags.
 fn row<'a>(kind: Kind, parent: u32, last: u32, local_name: &'a str, value: &'a str) -> Row<'a>

@@ -4,8 +4,9 @@ ghost use Rattle.std.specs.Str.{chars};
 ghost use Rattle.xml_syntax.specs.Characters.{characters};
 ghost use Rattle.xml_syntax.specs.Seen.{seen_all};
 ghost use Rattle.xml_syntax.specs.Tree as tree;
-ghost use Rattle.xml_read.specs.ReadOutcome.{Answers, characters_outcome, mark_length, read_outcome, resolved_outcome};
-ghost use Rattle.xml_read.specs.Told.{HasTree};
+ghost use Rattle.xml_read.specs.ReadOutcome.{Answers, read_outcome, resolved_outcome};
+ghost use Rattle.xml_read.specs.SpelledTree.{mark_length};
+ghost use Rattle.xml_read.specs.Code.Told.{HasTree, characters_outcome, row_refusal};
 ghost use Rattle.xml_resolve.specs.Resolve.{resolve};
 
 use bumpalo::Bump;
@@ -46,40 +47,66 @@ pub enum ReadRefusal {
 }
 
 /// The document of events, whose texts stand in the arena.
-fn document_of<'a>(alloc: Global, bump: &'a Bump, events: &[Event]) -> Result<Doc<'a>, ReadRefusal>
-    requires { HasTree (seen_all events.now) }
-    ensures { (t : tree.Content) → seen_all events.now ≡ tree.events t → Answers result (resolved_outcome t (resolve [] t)) }
+fn document_of<'a>(
+    alloc: Global,
+    bump: &'a Bump,
+    events: Vec<Event<'a>>,
+) -> Result<Doc<'a>, ReadRefusal>
+    requires { HasTree (seen_all events.items) }
+    ensures { (t : tree.Content) → seen_all events.entry.items ≡ tree.events t → Answers result (resolved_outcome t (resolve [] t)) }
 {
-    match check_names(alloc, events) {
+    match check_names(alloc, &events) {
         Ok(()) => {}
         Err(ResolveFault::Namespaces) => return Err(ReadRefusal::Namespaces),
         Err(ResolveFault::Memory) => return Err(ReadRefusal::Memory),
     }
-    if depth_of(events) > DEPTH_LIMIT {
+    if depth_of(&events) > DEPTH_LIMIT {
         return Err(ReadRefusal::TooDeep);
     }
-    match build_rows(alloc, bump, events) {
-        Ok(rows) => match Doc::make(bump, &rows) {
-            Ok(doc) => Ok(doc),
-            Err(_) => Err(ReadRefusal::Memory),
-        },
-        Err(RowFault::TooManyRows) => Err(ReadRefusal::TooManyRows),
-        Err(RowFault::Namespaces) => Err(ReadRefusal::Namespaces),
-        Err(RowFault::Memory) => Err(ReadRefusal::Memory),
+    match build_rows(alloc, bump, &events) {
+        Ok(rows) => Ok(Doc::from_rows(rows)),
+        Err(fault) => Err(row_refusal(fault)),
     }
 }
 
-/// The document of a text whose first character stands at that offset.
-fn read_text<'a>(alloc: Global, bump: &'a Bump, text: &str, at: u32) -> Result<Doc<'a>, ReadRefusal>
+/// The refusal where there are no rows.
+fn row_refusal(fault: RowFault) -> ReadRefusal
+    ensures { result ≡ row_refusal fault }
+{
+    match fault {
+        RowFault::Namespaces => ReadRefusal::Namespaces,
+        RowFault::TooManyRows => ReadRefusal::TooManyRows,
+        RowFault::Memory => ReadRefusal::Memory,
+    }
+}
+
+/// The document of a text in the arena whose first character stands at that offset. Its rows borrow from the text.
+fn read_kept<'a>(
+    alloc: Global,
+    bump: &'a Bump,
+    text: &'a str,
+    at: u32,
+) -> Result<Doc<'a>, ReadRefusal>
     requires { at + length text.now < 2 ^ 32 }
     ensures { Answers result (characters_outcome (characters at (chars text.now))) }
 {
     match read_events(alloc, text, at) {
-        Ok(events) => document_of(alloc, bump, &events),
+        Ok(events) => document_of(alloc, bump, events),
         Err(SyntaxFault::Encoding) => Err(ReadRefusal::Encoding),
         Err(SyntaxFault::DocType) => Err(ReadRefusal::DocType),
         Err(SyntaxFault::NotWellFormed) => Err(ReadRefusal::NotWellFormed),
         Err(SyntaxFault::Memory) => Err(ReadRefusal::Memory),
+    }
+}
+
+/// The document of a text whose first character stands at that offset. The text is put into the arena.
+fn read_text<'a>(alloc: Global, bump: &'a Bump, text: &str, at: u32) -> Result<Doc<'a>, ReadRefusal>
+    requires { at + length text.now < 2 ^ 32 }
+    ensures { Answers result (characters_outcome (characters at (chars text.now))) }
+{
+    match bump.try_alloc_str(text) {
+        Ok(text) => read_kept(alloc, bump, text, at),
+        Err(_) => Err(ReadRefusal::Memory),
     }
 }
 
@@ -96,7 +123,7 @@ fn behind_mark(bytes: &[u8]) -> (u32, &[u8])
     }
 }
 
-/// Reads a document. Its rows and texts stand in the arena; an answer leaves nothing else behind.
+/// Reads a document. Its texts stand in the arena, and it has its rows; an answer leaves nothing else behind.
 ///
 /// # Errors
 ///

@@ -4,7 +4,7 @@ ghost use Rattle.std.specs.List.{list_any};
 ghost use Rattle.std.specs.BTreeMap.{insert_entry};
 ghost use Rattle.xml_names.specs.Names.{qname_of};
 ghost use Rattle.xml_syntax.specs.Seen.{seen_attribute, seen_attributes};
-ghost use Rattle.xml_resolve.specs.Keys.{attribute_of};
+ghost use Rattle.xml_resolve.specs.Code.Keys.{attribute_of};
 ghost use Rattle.xml_resolve.specs.Resolve.{attribute_uri, declaration_of, is_declaration};
 ghost use Rattle.xml_resolve.specs.SeenRows.{Finds};
 ghost use Rattle.xml_resolve.specs.Steps.{key_cmp};
@@ -12,7 +12,7 @@ ghost use Rattle.xml_resolve.specs.Table.{bindings_behind, bound_by, declares, o
 
 use crate::bindings::Bindings;
 use crate::fault::RowFault;
-use crate::rows::Attributes;
+use crate::rows::{Attributes, kept};
 use bumpalo::Bump;
 use std::alloc::Global;
 use std::collections::BTreeMap;
@@ -28,17 +28,17 @@ pub(crate) fn is_declaration(prefix: &str, local: &str) -> bool
 }
 
 /// Whether the attribute is a declaration.
-fn declares(attribute: &Attribute) -> bool
+fn declares(attribute: &Attribute<'_>) -> bool
     ensures { result ≡ declares (seen_attribute attribute.now) }
 {
-    match split_qname(&attribute.name) {
+    match split_qname(attribute.name) {
         Some((prefix, local)) => is_declaration(prefix, local),
         None => false,
     }
 }
 
 /// Whether one of the attributes is a declaration.
-pub(crate) fn declares_any(attributes: &[Attribute]) -> bool
+pub(crate) fn declares_any(attributes: &[Attribute<'_>]) -> bool
     ensures { result ≡ list_any declares (seen_attributes attributes.now) }
 {
     for attribute in attributes {
@@ -60,23 +60,21 @@ fn declared_prefix<'s>(prefix: &str, local: &'s str) -> &'s str
 fn bind_attribute<'a>(
     bump: &'a Bump,
     bindings: &mut Bindings<'a>,
-    attribute: &Attribute,
+    attribute: &Attribute<'a>,
 ) -> Result<(), RowFault>
-    ensures { Finds (λ _. bindings.new) result (Some (with_attribute bindings.old (qname_of (seen_attribute attribute.now).name) (seen_attribute attribute.now).value)) }
+    ensures { Finds (λ _. bindings.new) result (Some
+        (with_attribute bindings.old (qname_of (seen_attribute attribute.now).name) (seen_attribute attribute.now).value)) }
 {
-    let Some((prefix, local)) = split_qname(&attribute.name) else {
+    let Some((prefix, local)) = split_qname(attribute.name) else {
         return Ok(());
     };
     if !is_declaration(prefix, local) {
         return Ok(());
     }
-    let Ok(bound) = bump.try_alloc_str(declared_prefix(prefix, local)) else {
+    let Ok(uri) = kept(bump, &attribute.value) else {
         return Err(RowFault::Memory);
     };
-    let Ok(uri) = bump.try_alloc_str(&attribute.value) else {
-        return Err(RowFault::Memory);
-    };
-    bindings.bind(bound, uri)
+    bindings.bind(declared_prefix(prefix, local), uri)
 }
 
 /// The bindings behind the attributes of a tag.
@@ -84,7 +82,7 @@ fn bind_attribute<'a>(
 pub(crate) fn bindings_behind<'a>(
     bump: &'a Bump,
     above: &Bindings<'a>,
-    attributes: &[Attribute],
+    attributes: &[Attribute<'a>],
 ) -> Result<Bindings<'a>, RowFault>
     ensures { Finds (λ b. b) result (Some (bindings_behind above.now (seen_attributes attributes.now))) }
 {
@@ -108,26 +106,18 @@ fn attribute_uri<'a>(bindings: &Bindings<'a>, prefix: &str) -> Option<&'a str>
 
 /// Puts an attribute with its name and value in order.
 fn add_attribute<'a>(
-    bump: &'a Bump,
     bindings: &Bindings<'a>,
     ordered: &mut Attributes<'a>,
-    prefix: &str,
-    local: &str,
-    value: &str,
+    prefix: &'a str,
+    local: &'a str,
+    value: &'a str,
 ) -> Result<(), RowFault>
-    ensures { Finds (λ _. map attribute_of ordered.new.entries) result (option_map (λ uri. insert_entry key_cmp (map attribute_of ordered.old.entries) (uri, local.now) (prefix.now, value.now)) (attribute_uri (bound_by bindings.now) prefix.now)) }
+    ensures { Finds (λ _. map attribute_of ordered.new.entries) result
+        (option_map (λ uri. insert_entry key_cmp (map attribute_of ordered.old.entries) (uri, local.now) (prefix.now, value.now))
+        (attribute_uri (bound_by bindings.now) prefix.now)) }
 {
     let Some(uri) = attribute_uri(bindings, prefix) else {
         return Err(RowFault::Namespaces);
-    };
-    let Ok(prefix) = bump.try_alloc_str(prefix) else {
-        return Err(RowFault::Memory);
-    };
-    let Ok(local) = bump.try_alloc_str(local) else {
-        return Err(RowFault::Memory);
-    };
-    let Ok(value) = bump.try_alloc_str(value) else {
-        return Err(RowFault::Memory);
     };
     match ordered.insert((uri, local), (prefix, value)) {
         Ok(_) => Ok(()),
@@ -141,24 +131,20 @@ pub(crate) fn ordered<'a>(
     alloc: Global,
     bump: &'a Bump,
     bindings: &Bindings<'a>,
-    attributes: &[Attribute],
+    attributes: &[Attribute<'a>],
 ) -> Result<Attributes<'a>, RowFault>
     ensures { Finds (λ m. map attribute_of m.entries) result (ordered_behind (bound_by bindings.now) [] (seen_attributes attributes.now)) }
 {
     let mut ordered = BTreeMap::new(alloc);
     for attribute in attributes {
-        let Some((prefix, local)) = split_qname(&attribute.name) else {
+        let Some((prefix, local)) = split_qname(attribute.name) else {
             return Err(RowFault::Namespaces);
         };
         if !is_declaration(prefix, local) {
-            add_attribute(
-                bump,
-                bindings,
-                &mut ordered,
-                prefix,
-                local,
-                &attribute.value,
-            )?;
+            let Ok(value) = kept(bump, &attribute.value) else {
+                return Err(RowFault::Memory);
+            };
+            add_attribute(bindings, &mut ordered, prefix, local, value)?;
         }
     }
     Ok(ordered)

@@ -7,14 +7,15 @@ ghost use Rattle.xml_syntax.specs.Tree.{Content};
 
 use xml_syntax::Event;
 
-/// How many elements of a document, given by its events, are open at most. It takes no memory.
-pub fn depth_of(events: &[Event]) -> usize
-    ensures { (t : Content) → seen_all events.now ≡ tree.events t → result ≡ depth t }
+/// How many elements are open at most: in a document, where the events are those of a tree. It takes no memory.
+pub fn depth_of(events: &[Event<'_>]) -> usize
+    ensures exact { result ≡ deepest_from 0 0 (seen_all events.now) }
+    ensures tree { (t : Content) → seen_all events.now ≡ tree.events t → result ≡ depth t }
 {
     deepest(events)
 }
 
-fn deepest(events: &[Event]) -> usize
+fn deepest(events: &[Event<'_>]) -> usize
     ensures { result ≡ deepest_from 0 0 (seen_all events.now) }
 {
     let mut level = 0_usize;

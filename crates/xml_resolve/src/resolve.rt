@@ -1,16 +1,18 @@
 //! Whether the names of a document can be resolved (Namespaces in XML 1.0).
-ghost use Rattle.std.specs.Prelude.{◌≡◌, [], ◌∷◌, ◌+◌, ◌<◌, ◌≤◌, ◌^◌, true, is_some, option_map, IfOk, OnOk};
+ghost use Rattle.std.specs.Prelude.{◌≡◌, [], ◌∷◌, ◌+◌, ◌<◌, ◌≤◌, ◌^◌, true, None, is_some, option_map, IfOk, OnOk};
 ghost use Rattle.xml_names.specs.Names.{qname_of};
 ghost use Rattle.xml_names.specs.Scopes.{Declared, Enter};
 ghost use Rattle.xml_resolve.specs.Resolve.{attribute_uri, element_name, is_declaration, resolve};
-ghost use Rattle.xml_resolve.specs.Seen.{Leads, Resolves, Takes};
+ghost use Rattle.xml_resolve.specs.Seen.{Resolves};
+ghost use Rattle.xml_resolve.specs.Code.Seen.{Leads, Takes};
 ghost use Rattle.xml_syntax.specs.Seen.{seen, seen_all, seen_attribute, seen_attributes, seen_tag};
 ghost use Rattle.xml_syntax.specs.Tree as tree;
 ghost use Rattle.xml_syntax.specs.Tree.{Content};
-ghost use Rattle.xml_resolve.specs.Steps.{bound_in, enters, names_behind, opened, resolves, scope_behind};
+ghost use Rattle.xml_resolve.specs.Steps.{bound_in, names_behind, opened, resolves, scope_behind};
+ghost use Rattle.xml_resolve.specs.Code.Steps.{enters, rises};
 
 use crate::attributes::is_declaration;
-use crate::names::NameSet;
+use crate::names::{NameSet, is_behind};
 use std::alloc::Global;
 use xml_names::{Scope, ScopeFault, is_ncname, split_qname};
 use xml_syntax::{Attribute, Event, Tag};
@@ -27,17 +29,17 @@ pub enum ResolveFault {
 
 /// Declares what the attributes declare.
 #[tactic(auto, unfolding(crate::specs::Steps::scope_behind))]
-fn declare_all(scope: &mut Scope, attributes: &[Attribute]) -> Result<(), ResolveFault>
+fn declare_all(scope: &mut Scope, attributes: &[Attribute<'_>]) -> Result<(), ResolveFault>
     ensures depth { enters scope.new ≡ enters scope.old }
     ensures scope { Leads result scope.new (scope_behind scope.old (seen_attributes attributes.now)) }
 {
     for attribute in attributes {
-        let Some((prefix, local)) = split_qname(&attribute.name) else {
+        let Some((prefix, local)) = split_qname(attribute.name) else {
             return Err(ResolveFault::Namespaces);
         };
         if is_declaration(prefix, local) {
             let bound = if prefix.is_empty() { "" } else { local };
-            match scope.declare(bound, &attribute.value) {
+            match scope.declare(bound, attribute.value.as_str()) {
                 Ok(()) => {}
                 Err(ScopeFault::Memory) => return Err(ResolveFault::Memory),
                 Err(_) => return Err(ResolveFault::Namespaces),
@@ -71,7 +73,7 @@ fn attribute_uri<'s>(scope: &'s Scope, prefix: &str) -> Option<&'s str>
 
 /// Opens an element.
 #[tactic(auto, unfolding(crate::specs::Steps::opened))]
-fn open_element(alloc: Global, scope: &mut Scope, tag: &Tag) -> Result<(), ResolveFault>
+fn open_element(alloc: Global, scope: &mut Scope, tag: &Tag<'_>) -> Result<(), ResolveFault>
     ensures opened { Leads result scope.new (opened scope.old (seen_tag tag.now)) }
     ensures depth { OnOk result (enters scope.new ≡ enters scope.old + 1) }
 {
@@ -79,10 +81,34 @@ fn open_element(alloc: Global, scope: &mut Scope, tag: &Tag) -> Result<(), Resol
         return Err(ResolveFault::Memory);
     }
     declare_all(scope, &tag.attributes)?;
-    if !is_element_named(scope, &tag.name) {
+    if !is_element_named(scope, tag.name) {
         return Err(ResolveFault::Namespaces);
     }
     names_are_apart(alloc, scope, &tag.attributes)
+}
+
+/// Whether all attributes can be resolved, and stand in order of their names, as in a canonical form. Then no two have the
+/// same name.
+#[tactic(auto, unfolding(crate::specs::Code::Steps::rises))]
+fn names_rise(scope: &Scope, attributes: &[Attribute<'_>]) -> bool
+    ensures { result ≡ rises (bound_in scope.now) None (seen_attributes attributes.now) }
+{
+    let mut last = None;
+    for attribute in attributes {
+        let Some((prefix, local)) = split_qname(attribute.name) else {
+            return false;
+        };
+        if !is_declaration(prefix, local) {
+            let Some(uri) = attribute_uri(scope, prefix) else {
+                return false;
+            };
+            if !is_behind(last, uri, local) {
+                return false;
+            }
+            last = Some((uri, local));
+        }
+    }
+    true
 }
 
 /// Whether all attributes can be resolved, and no two have the same name.
@@ -90,13 +116,16 @@ fn open_element(alloc: Global, scope: &mut Scope, tag: &Tag) -> Result<(), Resol
 fn names_are_apart(
     alloc: Global,
     scope: &Scope,
-    attributes: &[Attribute],
+    attributes: &[Attribute<'_>],
 ) -> Result<(), ResolveFault>
     ensures { Resolves result (is_some (names_behind scope.now [] (seen_attributes attributes.now))) }
 {
+    if names_rise(scope, attributes) {
+        return Ok(());
+    }
     let mut names = NameSet::new(alloc);
     for attribute in attributes {
-        let Some((prefix, local)) = split_qname(&attribute.name) else {
+        let Some((prefix, local)) = split_qname(attribute.name) else {
             return Err(ResolveFault::Namespaces);
         };
         if !is_declaration(prefix, local) {
@@ -119,7 +148,7 @@ fn take_event(
     alloc: Global,
     scope: &mut Scope,
     depth: usize,
-    event: &Event,
+    event: &Event<'_>,
 ) -> Result<usize, ResolveFault>
     requires small { depth < 2 ^ 63 }
     requires depth { depth ≡ enters scope.old }
@@ -131,7 +160,7 @@ fn take_event(
         Event::Text(_) => Ok(depth),
         Event::Comment(_) => Ok(depth),
         Event::Instruction(pi) => {
-            if is_ncname(&pi.target) {
+            if is_ncname(pi.target) {
                 Ok(depth)
             } else {
                 Err(ResolveFault::Namespaces)
@@ -151,21 +180,22 @@ fn take_event(
     }
 }
 
-/// Finds whether all names of a document, given by its events, can be resolved. It holds the declarations in scope alone,
-/// and the attributes' names of one tag.
+/// Finds whether all names of some events can be resolved. It holds the declarations in scope alone, and the attributes' names
+/// of one tag.
 ///
 /// # Errors
 ///
-/// `Namespaces` exactly where the tree of the events has no resolution, unless memory runs out first. `Memory` where
-/// memory runs out.
-pub fn check_names(alloc: Global, events: &[Event]) -> Result<(), ResolveFault>
-    ensures { (t : Content) → seen_all events.now ≡ tree.events t → Resolves result (is_some (resolve [] t)) }
+/// `Namespaces` exactly where a name can't be resolved: for the events of a tree, exactly where the tree has no resolution.
+/// `Memory` where memory runs out before that is known.
+pub fn check_names(alloc: Global, events: &[Event<'_>]) -> Result<(), ResolveFault>
+    ensures exact { Resolves result (resolves [] (seen_all events.now)) }
+    ensures tree { (t : Content) → seen_all events.now ≡ tree.events t → Resolves result (is_some (resolve [] t)) }
 {
     resolve_events(alloc, events)
 }
 
 #[tactic(auto, unfolding(crate::specs::Steps::resolves))]
-fn resolve_events(alloc: Global, events: &[Event]) -> Result<(), ResolveFault>
+fn resolve_events(alloc: Global, events: &[Event<'_>]) -> Result<(), ResolveFault>
     ensures { Resolves result (resolves [] (seen_all events.now)) }
 {
     let mut scope = Scope::new(alloc);

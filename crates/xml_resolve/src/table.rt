@@ -1,39 +1,38 @@
 //! The rows of a document, from its events.
 ghost use Rattle.std.specs.Prelude.{◌≡◌, ◌≤◌, [], ◌∷◌, length, option_map};
-ghost use Rattle.std.specs.String.{string_bytes};
 ghost use Rattle.xml_syntax.specs.Seen.{seen, seen_all, seen_tag};
 ghost use Rattle.xml_syntax.specs.Tree as tree;
 ghost use Rattle.xml_syntax.specs.Tree.{Content};
 ghost use Rattle.xml_resolve.specs.Resolve.{Name, Resolved, element_name, resolve};
-ghost use Rattle.xml_resolve.specs.Rows.{element_row, first_bindings, root_row, rows_of};
+ghost use Rattle.xml_resolve.specs.Rows.{element_row, first_bindings, rows_of};
 ghost use Rattle.xml_resolve.specs.Limits.{row_limit};
-ghost use Rattle.xml_resolve.specs.SeenRows.{AddsFound, Builds, Fills, Finds, Makes, TakesEvent, seen_open};
-ghost use Rattle.xml_resolve.specs.Table.{bound_by, built, closed, no_stack, tag_rows};
+ghost use Rattle.xml_resolve.specs.SeenRows.{Builds, Finds, Makes, seen_open};
+ghost use Rattle.xml_resolve.specs.Code.SeenRows.{AddsFound, Fills, TakesEvent};
+ghost use Rattle.xml_resolve.specs.Table.{all_rows, bound_by, built, no_stack, tag_rows};
 
 use crate::attributes::{bindings_behind, declares_any, ordered};
 use crate::bindings::Bindings;
 use crate::fault::RowFault;
 use crate::open::OpenElements;
-use crate::rows::{close_row, plain, push_attributes, push_namespaces, push_node, push_row};
+use crate::rows::{
+    close_row, plain, push_attributes, push_namespaces, push_node, push_row, push_text,
+};
 use bumpalo::Bump;
 use std::alloc::Global;
 use xml_doc::{Kind, Row, RowList};
 use xml_names::split_qname;
 use xml_syntax::{Event, Tag};
 
-/// An element's name in the arena: its prefix, its local name and its namespace name.
+/// An element's name: its prefix, its local name and its namespace name.
 #[tactic(auto, unfolding(crate::specs::Resolve::element_name))]
 fn name_in<'a>(
-    bump: &'a Bump,
     bindings: &Bindings<'a>,
-    text: &str,
+    text: &'a str,
 ) -> Result<(&'a str, &'a str, &'a str), RowFault>
-    ensures { Finds (λ x. record { prefix = x.0.now; local = x.1.now; uri = x.2.now }) result (element_name (bound_by bindings.now) text.now) }
+    ensures { Finds (λ x. record { prefix = x.0.now; local = x.1.now; uri = x.2.now }) result
+        (element_name (bound_by bindings.now) text.now) }
 {
-    let Ok(kept) = bump.try_alloc_str(text) else {
-        return Err(RowFault::Memory);
-    };
-    let Some((prefix, local)) = split_qname(kept) else {
+    let Some((prefix, local)) = split_qname(text) else {
         return Err(RowFault::Namespaces);
     };
     match bindings.get(prefix) {
@@ -50,16 +49,17 @@ fn name_in<'a>(
 
 /// Adds the row of an element, which is completed at its end.
 fn push_element<'a>(
-    bump: &'a Bump,
     rows: &mut RowList<'a>,
     parent: u32,
     bindings: &Bindings<'a>,
-    tag: &Tag,
+    tag: &Tag<'a>,
 ) -> Result<(), RowFault>
     requires { length rows.old ≤ row_limit }
-    ensures { AddsFound result rows.old rows.new (option_map (λ (n : Name). element_row parent (length rows.old) n tag.now.from tag.now.body_from 0 tag.now.is_empty ∷ []) (element_name (bound_by bindings.now) (string_bytes tag.now.name))) }
+    ensures { AddsFound result rows.old rows.new (option_map
+        (λ (n : Name). element_row parent (length rows.old) n tag.now.from tag.now.body_from 0 tag.now.is_empty ∷ [])
+        (element_name (bound_by bindings.now) tag.now.name.now)) }
 {
-    let (prefix_text, local_name, uri) = name_in(bump, bindings, &tag.name)?;
+    let (prefix_text, local_name, uri) = name_in(bindings, tag.name)?;
     let number = rows.len() as u32;
     push_row(
         rows,
@@ -82,13 +82,13 @@ fn push_tag<'a>(
     rows: &mut RowList<'a>,
     parent: u32,
     bindings: &Bindings<'a>,
-    tag: &Tag,
+    tag: &Tag<'a>,
 ) -> Result<(), RowFault>
     requires { length rows.old ≤ row_limit }
     ensures { AddsFound result rows.old rows.new (tag_rows parent (length rows.old) bindings.now (seen_tag tag.now)) }
 {
     let number = rows.len() as u32;
-    push_element(bump, rows, parent, bindings, tag)?;
+    push_element(rows, parent, bindings, tag)?;
     push_namespaces(rows, number, bindings.pairs())?;
     let attributes = ordered(alloc, bump, bindings, &tag.attributes)?;
     push_attributes(rows, number, &attributes)
@@ -101,7 +101,7 @@ fn start_element<'a>(
     first: &Bindings<'a>,
     elements: &mut OpenElements<'a>,
     rows: &mut RowList<'a>,
-    tag: &Tag,
+    tag: &Tag<'a>,
 ) -> Result<(), RowFault>
     requires few { length rows.old ≤ row_limit }
     requires first { first.now ≡ first_bindings }
@@ -127,7 +127,7 @@ fn take_event<'a>(
     first: &Bindings<'a>,
     elements: &mut OpenElements<'a>,
     rows: &mut RowList<'a>,
-    event: &Event,
+    event: &Event<'a>,
 ) -> Result<(), RowFault>
     requires few { length rows.old ≤ row_limit }
     requires first { first.now ≡ first_bindings }
@@ -141,14 +141,14 @@ fn take_event<'a>(
             close_row(rows, number, *until);
             Ok(())
         }
-        Event::Text(text) => push_node(bump, rows, elements.parent(), Kind::Text, "", text),
+        Event::Text(text) => push_text(bump, rows, elements.parent(), text),
         Event::Comment(text) => push_node(bump, rows, elements.parent(), Kind::Comment, "", text),
         Event::Instruction(pi) => push_node(
             bump,
             rows,
             elements.parent(),
             Kind::Instruction,
-            &pi.target,
+            pi.target,
             &pi.value,
         ),
     }
@@ -160,7 +160,7 @@ fn fill<'a>(
     alloc: Global,
     bump: &'a Bump,
     rows: &mut RowList<'a>,
-    events: &[Event],
+    events: &[Event<'a>],
 ) -> Result<(), RowFault>
     requires { length rows.old ≤ row_limit }
     ensures { Fills result rows.new (built no_stack rows.old (seen_all events.now)) }
@@ -174,8 +174,8 @@ fn fill<'a>(
 }
 
 /// All rows that the events make.
-fn build<'a>(alloc: Global, bump: &'a Bump, events: &[Event]) -> Result<RowList<'a>, RowFault>
-    ensures { Makes result (option_map (λ rows. closed rows 0 0) (built no_stack (root_row 0 ∷ []) (seen_all events.now))) }
+fn build<'a>(alloc: Global, bump: &'a Bump, events: &[Event<'a>]) -> Result<RowList<'a>, RowFault>
+    ensures { Makes result (all_rows (seen_all events.now)) }
 {
     let mut rows = RowList::new(alloc);
     push_row(&mut rows, plain(Kind::Root, 0, 0, "", ""))?;
@@ -184,19 +184,20 @@ fn build<'a>(alloc: Global, bump: &'a Bump, events: &[Event]) -> Result<RowList<
     Ok(rows)
 }
 
-/// The rows of a document, from the events of a tree whose names can be resolved, as [`check_names`](crate::check_names)
-/// tells. Texts are copied into the arena. The rows are those of XPath 1.0 §5 in document order.
+/// The rows that events make, with their texts in the document or in the arena. Of the events of a tree whose names can be resolved, as
+/// [`check_names`](crate::check_names) tells, they are the rows of the tree: those of XPath 1.0 §5 in document order.
 ///
 /// # Errors
 ///
-/// `TooManyRows` exactly where the document has more than 1,000,000 rows, unless memory runs out first: it is tested
-/// before a row is added, so that no more are ever held. `Memory` where memory runs out.
+/// `TooManyRows` exactly where there are more than 1,000,000 rows, unless memory runs out first: it is tested before a row is
+/// added, so that no more are ever held. `Namespaces` only where a name can't be resolved. `Memory` where memory runs out.
 pub fn build_rows<'a>(
     alloc: Global,
     bump: &'a Bump,
-    events: &[Event],
+    events: &[Event<'a>],
 ) -> Result<RowList<'a>, RowFault>
-    ensures { (t : Content) (r : Resolved) → seen_all events.now ≡ tree.events t → resolve [] t ≡ Some r → Builds result (rows_of r) }
+    ensures exact { Makes result (all_rows (seen_all events.now)) }
+    ensures tree { (t : Content) (r : Resolved) → seen_all events.now ≡ tree.events t → resolve [] t ≡ Some r → Builds result (rows_of r) }
 {
     build(alloc, bump, events)
 }

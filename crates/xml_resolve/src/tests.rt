@@ -1,12 +1,13 @@
 use super::*;
 use bumpalo::Bump;
 use std::alloc::Global;
+use std::process::Abort;
 use std::test::Fail;
-use xml_doc::Kind;
+use xml_doc::{Kind, RowList};
 use xml_syntax::{Event, read_events};
 
 /// The events of a short document.
-fn events(alloc: Global, text: &str) -> Result<Vec<Event>, Fail> {
+fn events<'a>(alloc: Global, text: &'a str) -> Result<Vec<Event<'a>>, Fail> {
     if text.len() > 1000 {
         return Ok(Vec::new(alloc));
     }
@@ -40,13 +41,8 @@ fn names_are_resolved_or_refused(rt: HostRuntime) -> Result<(), Fail> {
     Ok(())
 }
 
-#[test]
-fn rows_in_document_order(rt: HostRuntime) -> Result<(), Fail> {
-    let alloc = rt.alloc();
-    let events = events(alloc, "<a xmlns='urn:x' b='2' a='1'>t<b xmlns=''/></a>")?;
-    let bump = Bump::new(alloc);
-    let rows = build_rows(alloc, &bump, &events).ok().ok_or("rows")?;
-    assert_eq!(rt; depth_of(&events), 2);
+/// Asserts the rows of the document in the test below.
+fn expect_rows(rt: &impl Abort, rows: &RowList<'_>) -> Result<(), Fail> {
     let wanted = [
         (Kind::Root, 0, 8, ""),
         (Kind::Element, 0, 8, "a"),
@@ -67,4 +63,26 @@ fn rows_in_document_order(rt: HostRuntime) -> Result<(), Fail> {
         assert_eq!(rt; row.local_name, name);
     }
     Ok(())
+}
+
+/// Asserts the depth and the rows of the document in the test below.
+fn expect_document<'a>(
+    rt: &impl Abort,
+    alloc: Global,
+    bump: &'a Bump,
+    text: &'a str,
+) -> Result<(), Fail> {
+    let events = events(alloc, text)?;
+    assert_eq!(rt; depth_of(&events), 2);
+    match build_rows(alloc, bump, &events) {
+        Ok(rows) => expect_rows(rt, &rows),
+        Err(_) => panic!(rt),
+    }
+}
+
+#[test]
+fn rows_in_document_order(rt: HostRuntime) -> Result<(), Fail> {
+    let bump = Bump::new(rt.alloc());
+    let text = "<a xmlns='urn:x' b='2' a='1'>t<b xmlns=''/></a>";
+    expect_document(&rt, rt.alloc(), &bump, text)
 }

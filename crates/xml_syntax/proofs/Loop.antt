@@ -1,5 +1,6 @@
 -- One turn of the loop over the items of the open elements, where a text goes on until another item comes.
-use Rattle.std.proofs.Common.{◌≡◌, ◌≢◌, ℕ, String, Vec, vec_len, zero, suc, ◌<◌, ◌≤◌, true, false, eqb, List, [], ◌∷◌, ◌++◌, length, Option, Some, None, refl, sym, ap, subst, ◌∙◌, append_assoc, append-nil, arith}
+use denote.Ref.{Bor}
+use Rattle.std.proofs.Common.{◌≡◌, ◌≢◌, ℕ, Vec, vec_len, zero, suc, ◌<◌, ◌≤◌, true, false, eqb, List, [], ◌∷◌, ◌++◌, length, Option, Some, None, refl, sym, ap, subst, ◌∙◌, append_assoc, append-nil, arith}
 use Rattle.std.specs.declared.alloc.Global.{Global}
 use Rattle.std.proofs.lemmas.Bool.{eqb-true, eq-eqb, false≢true}
 use Rattle.std.proofs.lemmas.List.{length-reverse, length-map}
@@ -11,7 +12,8 @@ use Rattle.xml_syntax.specs.Tree as tree
 use Rattle.xml_syntax.specs.Reading.{Item, Words, Comment, Instruction, Empty, Start, End, text_follows, text_of, markup_of, item_of, open_behind, Level, with_item, left_of}
 use Rattle.xml_syntax.specs.declared.fault.SyntaxFault.{SyntaxFault}
 use Rattle.xml_syntax.specs.declared.fault.SyntaxFault.TheVariants.{Encoding, DocType, NotWellFormed, Memory}
-use Rattle.xml_syntax.specs.Seen.{Fails, with_front, left_events, with_text, with_events, item_events, text_events, seen_open}
+use Rattle.xml_syntax.specs.Seen.{Fails, with_front, left_events, with_text, with_events, text_events, seen_open}
+use Rattle.xml_syntax.specs.Code.Seen.{item_events}
 use Rattle.xml_syntax.proofs.ItemLaws.{markup_sound, SpellsMarkup}
 use Rattle.xml_syntax.proofs.Whole.{SpellsLeft, no_level, a_level, left_sound, item_shorter}
 
@@ -243,12 +245,12 @@ is_done before v [] xs all e kept = sym kept.same ∙ ap (λ (t : List tree.Even
 is_done before v (top ∷ names) xs all e kept = absurd (omega arith)
 
 -- the test of the stack of open elements
-pub some_open : (v : Vec (String Global) Global) → false ≡ eqb (vec_len v) 0 → 0 < length (seen_open v.items)
+pub some_open : (v : Vec (Bor (List ℕ)) Global) → false ≡ eqb (vec_len v) 0 → 0 < length (seen_open v.items)
 some_open v e =
     let some : vec_len v ≢ 0 = λ here. false≢true (e ∙ eq-eqb (vec_len v) 0 here) in
     simp (length-reverse, length-map) (omega (arith, v.ok.0))
 
-pub none_open : (v : Vec (String Global) Global) → true ≡ eqb (vec_len v) 0 → length (seen_open v.items) ≡ 0
+pub none_open : (v : Vec (Bor (List ℕ)) Global) → true ≡ eqb (vec_len v) 0 → length (seen_open v.items) ≡ 0
 none_open v e =
     let none : vec_len v ≡ 0 = eqb-true (vec_len v) 0 (sym e) in
     simp (length-reverse, length-map) (omega (arith, v.ok.0))

@@ -1,8 +1,10 @@
 pub mod Characters
 pub mod Classes
 pub mod Class
+pub mod Run
 pub mod Tree
 pub mod Grammar
 pub mod Reading
 pub mod Seen
 pub mod Outcome
+pub mod Code

@@ -1,9 +1,12 @@
 -- What the code's values are in the terms of the definitions, and what a call that reads has to say.
 use Rattle.std.specs.Prelude.{◌≡◌, ℕ, Bool, true, false, String, List, [], ◌∷◌, ◌++◌, map, reverse, Option, Some, None, Result, Ok, Err}
+use denote.Ref.{Bor}
 use Rattle.std.specs.String.{string_bytes}
 use Rattle.std.specs.declared.alloc.Global.{Global}
 use Rattle.xml_syntax.specs.declared.fault.SyntaxFault.{SyntaxFault}
 use Rattle.xml_syntax.specs.declared.fault.SyntaxFault.TheVariants as faults
+use Rattle.xml_syntax.specs.declared.event.Text.{Text}
+use Rattle.xml_syntax.specs.declared.event.Text.TheVariants as texts
 use Rattle.xml_syntax.specs.declared.event.Tag.{Tag}
 use Rattle.xml_syntax.specs.declared.event.Attribute.{Attribute}
 use Rattle.xml_syntax.specs.declared.event.Instruction.{Instruction}
@@ -15,26 +18,37 @@ use Rattle.xml_syntax.specs.Characters.{Placed}
 use Rattle.xml_syntax.specs.Tree as tree
 use Rattle.xml_syntax.specs.Reading as reading
 
+-- a text or a value
+abbrev pub seen_text : Text → List ℕ
+seen_text (texts.Plain w) = w.now
+seen_text (texts.Made w) = string_bytes w
+
 -- an attribute, and the attributes of a tag
 abbrev pub seen_attribute : Attribute → tree.Attribute
-seen_attribute a = record { name = string_bytes a.name; value = string_bytes a.value }
+seen_attribute a = record { name = a.name.now; value = seen_text a.value }
 
 abbrev pub seen_attributes : List Attribute → List tree.Attribute
 seen_attributes = map seen_attribute
 
 -- a tag
 abbrev pub seen_tag : Tag → tree.Tag
-seen_tag t = record { name = string_bytes t.name; attributes = seen_attributes t.attributes.items; from = t.from; body_from = t.body_from; is_empty = t.is_empty }
+seen_tag t = record {
+  name = t.name.now;
+  attributes = seen_attributes t.attributes.items;
+  from = t.from;
+  body_from = t.body_from;
+  is_empty = t.is_empty;
+}
 
 -- the target and the value of an instruction
 abbrev pub seen_instruction : Instruction → List ℕ × List ℕ
-seen_instruction i = (string_bytes i.target, string_bytes i.value)
+seen_instruction i = (i.target.now, string_bytes i.value)
 
 -- an event
 abbrev pub seen : Event → tree.Event
-seen (events.Text w) = tree.Text (string_bytes w)
+seen (events.Text w) = tree.Text (seen_text w)
 seen (events.Comment w) = tree.Comment (string_bytes w)
-seen (events.Instruction i) = tree.Instruction (string_bytes i.target) (string_bytes i.value)
+seen (events.Instruction i) = tree.Instruction i.target.now (string_bytes i.value)
 seen (events.Start tag) = tree.Start (seen_tag tag)
 seen (events.End until) = tree.End until
 
@@ -45,10 +59,10 @@ seen_all = map seen
 -- an item that isn't characters
 abbrev pub seen_item : Item → reading.Item
 seen_item (items.Comment w) = reading.Comment (string_bytes w)
-seen_item (items.Instruction i) = reading.Instruction (string_bytes i.target) (string_bytes i.value)
+seen_item (items.Instruction i) = reading.Instruction i.target.now (string_bytes i.value)
 seen_item (items.Empty tag until) = reading.Empty (seen_tag tag) until
 seen_item (items.Start tag) = reading.Start (seen_tag tag)
-seen_item (items.End name from) = reading.End (string_bytes name) from
+seen_item (items.End name from) = reading.End name.now from
 
 -- the name of an encoding, where one was declared
 abbrev pub seen_encoding : Option (String Global) → Option (List ℕ)
@@ -56,8 +70,8 @@ seen_encoding None = None
 seen_encoding (Some name) = Some (string_bytes name)
 
 -- the names of the open elements, the innermost first, of a list whose last one is the innermost
-abbrev pub seen_open : List (String Global) → List (List ℕ)
-seen_open names = reverse (map string_bytes names)
+abbrev pub seen_open : List (Bor (List ℕ)) → List (List ℕ)
+seen_open names = reverse (map (λ (name : Bor (List ℕ)). name.now) names)
 
 -- A call fails where reading gives nothing, or where memory runs out.
 abbrev pub Fails : {Y : Type 0} → SyntaxFault → Option Y → Type 0
@@ -92,7 +106,8 @@ with_content before None = None
 with_content before (Some x) = Some (before ++ tree.events x.0, x.1)
 
 -- A call adds the events of what reading gives.
-abbrev pub AddsContent : Result (Unit {0}) SyntaxFault → List tree.Event → List tree.Event → List Placed → Option (tree.Content × List Placed) → Type 0
+abbrev pub AddsContent : Result (Unit {0}) SyntaxFault → List tree.Event → List tree.Event → List Placed
+    → Option (tree.Content × List Placed) → Type 0
 AddsContent (Ok x) before after left read = with_content before read ≡ Some (after, left)
 AddsContent (Err e) before after left read = Fails e read
 
@@ -112,25 +127,12 @@ with_events before pending None = None
 with_events before pending (Some x) = Some (before ++ left_events (with_text pending x.0), x.1)
 
 -- A call adds the events of what is left of the open elements.
-abbrev pub AddsLeft : Result (Unit {0}) SyntaxFault → List tree.Event → List tree.Event → List Placed → Option (List reading.Level × List Placed) → Type 0
+abbrev pub AddsLeft : Result (Unit {0}) SyntaxFault → List tree.Event → List tree.Event → List Placed
+    → Option (List reading.Level × List Placed) → Type 0
 AddsLeft (Ok x) before after left read = with_events before [] read ≡ Some (after, left)
 AddsLeft (Err e) before after left read = Fails e read
-
--- the events of an item that isn't characters
-abbrev pub item_events : reading.Item → List tree.Event
-item_events (reading.Words w) = []
-item_events (reading.Comment w) = tree.Comment w ∷ []
-item_events (reading.Instruction target w) = tree.Instruction target w ∷ []
-item_events (reading.Empty tag until) = tree.Start tag ∷ (tree.End until ∷ [])
-item_events (reading.Start tag) = tree.Start tag ∷ []
-item_events (reading.End name from) = tree.End from ∷ []
 
 -- the event of a text that ends, which an empty one has not
 abbrev pub text_events : List ℕ → List tree.Event
 text_events [] = []
 text_events (c ∷ w) = tree.Text (c ∷ w) ∷ []
-
--- An item opens or closes an element, and its events are added.
-abbrev pub TakesItem : Result (Unit {0}) SyntaxFault → reading.Item → List (List ℕ) → List (List ℕ) → List tree.Event → List tree.Event → Type 0
-TakesItem (Ok x) item names behind_it before after = (reading.open_behind item names ≡ Some behind_it) × (after ≡ before ++ item_events item)
-TakesItem (Err e) item names behind_it before after = Fails e (reading.open_behind item names)

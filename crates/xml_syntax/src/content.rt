@@ -1,22 +1,24 @@
 //! The content of the open elements.
 ghost use Rattle.std.specs.Prelude.{◌≡◌, ◌++◌, OnOk, length};
-ghost use Rattle.std.specs.String.{string_bytes};
 ghost use Rattle.xml_syntax.specs.Reading.{left_of};
-ghost use Rattle.xml_syntax.specs.Seen.{seen_item, seen_open, seen_all, text_events, TakesItem, AddsLeft};
+ghost use Rattle.xml_syntax.specs.Seen.{seen_item, seen_open, seen_all, text_events, AddsLeft};
+ghost use Rattle.xml_syntax.specs.Code.Seen.{TakesItem, seen_pending};
 
 use crate::cursor::Cursor;
 use crate::event::Event;
 use crate::fault::SyntaxFault;
 use crate::item::{Item, markup, text, text_follows};
+use crate::pending::Pending;
 use std::alloc::{AllocError, Global};
 
 // Opens or closes an element where the item does, and adds the item's events.
-fn take_item(
-    stack: &mut Vec<String>,
-    events: &mut Vec<Event>,
-    item: Item,
+fn take_item<'a>(
+    stack: &mut Vec<&'a str>,
+    events: &mut Vec<Event<'a>>,
+    item: Item<'a>,
 ) -> Result<(), SyntaxFault>
-    ensures { TakesItem result (seen_item item) (seen_open stack.old.items) (seen_open stack.new.items) (seen_all events.old.items) (seen_all events.new.items) }
+    ensures { TakesItem result (seen_item item.entry) (seen_open stack.old.items) (seen_open stack.new.items) (seen_all events.old.items)
+        (seen_all events.new.items) }
 {
     match item {
         Item::Comment(text) => events.push(Event::Comment(text))?,
@@ -26,7 +28,7 @@ fn take_item(
             events.push(Event::End(until))?;
         }
         Item::Start(tag) => {
-            stack.push(tag.name.clone()?)?;
+            stack.push(tag.name)?;
             events.push(Event::Start(tag))?;
         }
         Item::End(name, from) => {
@@ -44,32 +46,38 @@ fn take_item(
 }
 
 // Adds the event of a text that ends here, unless it is empty.
-fn add_text(events: &mut Vec<Event>, text: String) -> Result<(), AllocError>
-    ensures { OnOk result (seen_all events.new.items ≡ seen_all events.old.items ++ text_events (string_bytes text)) }
+fn add_text<'a>(
+    alloc: Global,
+    events: &mut Vec<Event<'a>>,
+    pending: Pending<'a>,
+) -> Result<(), AllocError>
+    ensures { OnOk result (seen_all events.new.items ≡ seen_all events.old.items ++ text_events (seen_pending pending.entry)) }
 {
-    if !text.is_empty() {
+    let text = pending.into_text(alloc)?;
+    if !text.as_str().is_empty() {
         events.push(Event::Text(text))?;
     }
     Ok(())
 }
 
 /// Reads what is left of the open elements.
-pub fn read_open(
+pub fn read_open<'a>(
     alloc: Global,
-    cursor: &mut Cursor<'_>,
-    stack: &mut Vec<String>,
-    events: &mut Vec<Event>,
+    cursor: &mut Cursor<'a>,
+    stack: &mut Vec<&'a str>,
+    events: &mut Vec<Event<'a>>,
 ) -> Result<(), SyntaxFault>
-    ensures { AddsLeft result (seen_all events.old.items) (seen_all events.new.items) cursor.new (left_of (length cursor.old) (seen_open stack.old.items) cursor.old) }
+    ensures { AddsLeft result (seen_all events.old.items) (seen_all events.new.items) cursor.new
+        (left_of (length cursor.old) (seen_open stack.old.items) cursor.old) }
 {
-    let mut pending = String::new(alloc);
+    let mut pending = Pending::new(alloc);
     while !stack.is_empty() {
         if text_follows(cursor) {
-            text(alloc, cursor, &mut pending)?;
+            text(cursor, &mut pending)?;
         } else {
             let item = markup(alloc, cursor)?;
-            add_text(events, pending)?;
-            pending = String::new(alloc);
+            add_text(alloc, events, pending)?;
+            pending = Pending::new(alloc);
             take_item(stack, events, item)?;
         }
     }

@@ -1,7 +1,6 @@
 //! A whole document.
 ghost use Rattle.std.specs.Prelude.{◌≡◌, ◌+◌, ◌^◌, ◌<◌, ◌++◌, ◌↔◌, List, [], ◌∷◌, length, IfOk, OnOk, IsErrOf, Ok, true, false};
 ghost use Rattle.std.specs.Str.{chars};
-ghost use Rattle.std.specs.String.{string_bytes};
 ghost use Rattle.xml_syntax.specs.Characters.{Placed, characters};
 ghost use Rattle.xml_syntax.specs.Tree.{Content, events};
 ghost use Rattle.xml_syntax.specs.Tree as tree;
@@ -21,17 +20,17 @@ use crate::tag::tag;
 use std::alloc::{AllocError, Global};
 
 // The stack of one open element.
-fn opened(alloc: Global, tag: &Tag) -> Result<Vec<String>, AllocError>
-    ensures { IfOk result (λ v. seen_open v.items ≡ string_bytes tag.now.name ∷ []) }
+fn opened<'a>(alloc: Global, tag: &Tag<'a>) -> Result<Vec<&'a str>, AllocError>
+    ensures { IfOk result (λ v. seen_open v.items ≡ tag.now.name.now ∷ []) }
 {
     let mut stack = Vec::new(alloc);
-    stack.push(tag.name.clone()?)?;
+    stack.push(tag.name)?;
     Ok(stack)
 }
 
 // Adds the begin of an element.
-fn add_start(events: &mut Vec<Event>, tag: Tag) -> Result<(), AllocError>
-    ensures { OnOk result (seen_all events.new.items ≡ seen_all events.old.items ++ tree.Start (seen_tag tag) ∷ []) }
+fn add_start<'a>(events: &mut Vec<Event<'a>>, tag: Tag<'a>) -> Result<(), AllocError>
+    ensures { OnOk result (seen_all events.new.items ≡ seen_all events.old.items ++ tree.Start (seen_tag tag.entry) ∷ []) }
 {
     events.push(Event::Start(tag))?;
     Ok(())
@@ -39,13 +38,14 @@ fn add_start(events: &mut Vec<Event>, tag: Tag) -> Result<(), AllocError>
 
 // An element behind its first tag.
 #[tactic(auto, unfolding(crate::specs::Reading::behind_tag))]
-fn behind_tag(
+fn behind_tag<'a>(
     alloc: Global,
-    cursor: &mut Cursor<'_>,
-    events: &mut Vec<Event>,
-    item: Item,
+    cursor: &mut Cursor<'a>,
+    events: &mut Vec<Event<'a>>,
+    item: Item<'a>,
 ) -> Result<(), SyntaxFault>
-    ensures { AddsContent result (seen_all events.old.items) (seen_all events.new.items) cursor.new (behind_tag (seen_item item) cursor.old) }
+    ensures { AddsContent result (seen_all events.old.items) (seen_all events.new.items) cursor.new
+        (behind_tag (seen_item item.entry) cursor.old) }
 {
     match item {
         Item::Empty(tag, until) => {
@@ -64,10 +64,10 @@ fn behind_tag(
 
 // An element.
 #[tactic(auto, unfolding(crate::specs::Reading::element_of))]
-fn element(
+fn element<'a>(
     alloc: Global,
-    cursor: &mut Cursor<'_>,
-    events: &mut Vec<Event>,
+    cursor: &mut Cursor<'a>,
+    events: &mut Vec<Event<'a>>,
 ) -> Result<(), SyntaxFault>
     ensures { AddsContent result (seen_all events.old.items) (seen_all events.new.items) cursor.new (element_of cursor.old) }
 {
@@ -86,7 +86,7 @@ fn is_other_encoding(name: &Option<String>) -> bool
 }
 
 // A whole document.
-fn document(alloc: Global, cursor: &mut Cursor<'_>) -> Result<Vec<Event>, SyntaxFault>
+fn document<'a>(alloc: Global, cursor: &mut Cursor<'a>) -> Result<Vec<Event<'a>>, SyntaxFault>
     ensures { Answers result (syntax_outcome cursor.old) }
 {
     let encoding = declared(alloc, cursor)?;
@@ -114,7 +114,7 @@ fn document(alloc: Global, cursor: &mut Cursor<'_>) -> Result<Vec<Event>, Syntax
 /// # Errors
 ///
 /// The first of `Encoding`, `DocType` and `NotWellFormed` that holds, or `Memory` where memory runs out.
-pub fn read_events(alloc: Global, text: &str, at: u32) -> Result<Vec<Event>, SyntaxFault>
+pub fn read_events<'a>(alloc: Global, text: &'a str, at: u32) -> Result<Vec<Event<'a>>, SyntaxFault>
     requires { at + length text.now < 2 ^ 32 }
     ensures exact { Answers result (syntax_outcome (characters at (chars text.now))) }
     ensures spelled { IfOk result (λ v. IsTold (characters at (chars text.now)) (seen_all v.items)) }

@@ -5,6 +5,7 @@ ghost use Rattle.xml_syntax.specs.Characters.{begins};
 ghost use Rattle.xml_syntax.specs.Reading.{plain_of, char_data_of, section_of, comment_of, instruction_value_of, instruction_of, text_follows, text_of, markup_of};
 ghost use Rattle.xml_syntax.specs.Classes.{is_in_any_case};
 ghost use Rattle.xml_syntax.specs.Seen.{Gives, Adds, seen_item, seen_instruction};
+ghost use Rattle.xml_syntax.specs.Code.Seen.{seen_pending};
 ghost use Rattle.std.specs.Prelude.{codes};
 
 use crate::class::Class;
@@ -13,27 +14,29 @@ use crate::event::{Instruction, Tag};
 use crate::fault::SyntaxFault;
 use crate::literal::{add_until, literal, until};
 use crate::parts::{name, one, skip_space};
+use crate::pending::Pending;
 use crate::reference::reference;
+use crate::run::Run;
 use crate::tag::tag;
 use std::alloc::Global;
 
 /// What stands next in content, where it isn't characters.
 #[derive(Debug, Drop)]
-pub enum Item {
+pub enum Item<'a> {
     /// A comment's text.
     Comment(String),
     /// A processing instruction.
-    Instruction(Instruction),
+    Instruction(Instruction<'a>),
     /// An empty-element tag, and the offset behind it.
-    Empty(Tag, u32),
+    Empty(Tag<'a>, u32),
     /// A start tag.
-    Start(Tag),
+    Start(Tag<'a>),
     /// An end tag: its name and its offset.
-    End(String, u32),
+    End(&'a str, u32),
 }
 
-// The longest run of character data.
-fn plain(cursor: &mut Cursor<'_>, into: &mut String) -> Result<(), SyntaxFault>
+// What is left of the longest run of character data.
+fn plain_rest(cursor: &mut Cursor<'_>, into: &mut String) -> Result<(), SyntaxFault>
     ensures { Adds result (string_bytes into.old) (string_bytes into.new) cursor.new (plain_of cursor.old) }
 {
     while cursor.passes(Class::Plain) {
@@ -42,14 +45,25 @@ fn plain(cursor: &mut Cursor<'_>, into: &mut String) -> Result<(), SyntaxFault>
         }
         let c = one(cursor, Class::Plain)?;
         into.push(c)?;
+        let run = cursor.run(Run::Text);
+        into.push_str(run)?;
     }
     Ok(())
 }
 
+// The longest run of character data.
+fn plain<'a>(cursor: &mut Cursor<'a>, into: &mut Pending<'a>) -> Result<(), SyntaxFault>
+    ensures { Adds result (seen_pending into.old) (seen_pending into.new) cursor.new (plain_of cursor.old) }
+{
+    let run = cursor.run(Run::Text);
+    into.add_run(run)?;
+    plain_rest(cursor, &mut into.made)
+}
+
 // CharData (XML 1.0 §2.4).
 #[tactic(auto, unfolding(crate::specs::Reading::char_data_of))]
-fn char_data(cursor: &mut Cursor<'_>, into: &mut String) -> Result<(), SyntaxFault>
-    ensures { Adds result (string_bytes into.old) (string_bytes into.new) cursor.new (char_data_of cursor.old) }
+fn char_data<'a>(cursor: &mut Cursor<'a>, into: &mut Pending<'a>) -> Result<(), SyntaxFault>
+    ensures { Adds result (seen_pending into.old) (seen_pending into.new) cursor.new (char_data_of cursor.old) }
 {
     if !cursor.passes(Class::Plain) {
         return Err(SyntaxFault::NotWellFormed);
@@ -66,6 +80,13 @@ fn section(cursor: &mut Cursor<'_>, into: &mut String) -> Result<(), SyntaxFault
     add_until(cursor, &[']', ']', '>'], into)?;
     literal(cursor, &[']', ']', '>'])?;
     Ok(())
+}
+
+// Adds a CDATA section.
+fn add_section(cursor: &mut Cursor<'_>, into: &mut Pending<'_>) -> Result<(), SyntaxFault>
+    ensures { Adds result (seen_pending into.old) (seen_pending into.new) cursor.new (section_of cursor.old) }
+{
+    section(cursor, &mut into.made)
 }
 
 /// A comment (XML 1.0 §2.5).
@@ -102,12 +123,15 @@ fn is_reserved(target: &str) -> bool
 
 /// A processing instruction (XML 1.0 §2.6).
 #[tactic(auto, unfolding(crate::specs::Reading::instruction_of))]
-pub fn instruction(alloc: Global, cursor: &mut Cursor<'_>) -> Result<Instruction, SyntaxFault>
+pub fn instruction<'a>(
+    alloc: Global,
+    cursor: &mut Cursor<'a>,
+) -> Result<Instruction<'a>, SyntaxFault>
     ensures { Gives seen_instruction result cursor.new (instruction_of cursor.old) }
 {
     literal(cursor, &['<', '?'])?;
-    let target = name(alloc, cursor)?;
-    if is_reserved(target.as_str()) {
+    let target = name(cursor)?;
+    if is_reserved(target) {
         return Err(SyntaxFault::NotWellFormed);
     }
     let value = instruction_value(alloc, cursor)?;
@@ -118,6 +142,9 @@ pub fn instruction(alloc: Global, cursor: &mut Cursor<'_>) -> Result<Instruction
 pub fn text_follows(cursor: &Cursor<'_>) -> bool
     ensures { result ≡ text_follows cursor.now }
 {
+    if cursor.sees_tag() {
+        return false;
+    }
     if cursor.begins('<') {
         cursor.begins_with(&['<', '!', '['])
     } else {
@@ -127,15 +154,15 @@ pub fn text_follows(cursor: &Cursor<'_>) -> bool
 
 /// Adds characters, or what a reference or a CDATA section stands for.
 #[tactic(auto, unfolding(crate::specs::Reading::text_of))]
-pub fn text(alloc: Global, cursor: &mut Cursor<'_>, into: &mut String) -> Result<(), SyntaxFault>
-    ensures { Adds result (string_bytes into.old) (string_bytes into.new) cursor.new (text_of cursor.old) }
+pub fn text<'a>(cursor: &mut Cursor<'a>, into: &mut Pending<'a>) -> Result<(), SyntaxFault>
+    ensures { Adds result (seen_pending into.old) (seen_pending into.new) cursor.new (text_of cursor.old) }
 {
     if cursor.begins('<') {
-        return section(cursor, into);
+        return add_section(cursor, into);
     }
     if cursor.begins('&') {
-        let c = reference(alloc, cursor)?;
-        into.push(c)?;
+        let c = reference(cursor)?;
+        into.add(c)?;
         return Ok(());
     }
     char_data(cursor, into)
@@ -143,9 +170,12 @@ pub fn text(alloc: Global, cursor: &mut Cursor<'_>, into: &mut String) -> Result
 
 /// A comment, an instruction or a tag.
 #[tactic(auto, unfolding(crate::specs::Reading::markup_of))]
-pub fn markup(alloc: Global, cursor: &mut Cursor<'_>) -> Result<Item, SyntaxFault>
+pub fn markup<'a>(alloc: Global, cursor: &mut Cursor<'a>) -> Result<Item<'a>, SyntaxFault>
     ensures { Gives seen_item result cursor.new (markup_of cursor.old) }
 {
+    if cursor.sees_tag() {
+        return tag(alloc, cursor);
+    }
     if cursor.begins_with(&['<', '!']) {
         let text = comment(alloc, cursor)?;
         return Ok(Item::Comment(text));

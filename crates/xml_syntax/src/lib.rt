@@ -17,12 +17,14 @@ mod item;
 mod laws;
 mod literal;
 mod parts;
+mod pending;
 mod prolog;
 mod reference;
+mod run;
 mod tag;
 
 pub use crate::document::read_events;
-pub use crate::event::{Attribute, Event, Instruction, Tag};
+pub use crate::event::{Attribute, Event, Instruction, Tag, Text};
 pub use crate::fault::SyntaxFault;
 pub use crate::laws::{documents_are_read, one_tree, outcomes, parts_are_read};
 

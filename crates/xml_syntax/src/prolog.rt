@@ -22,10 +22,10 @@ fn misc_follows(cursor: &Cursor<'_>) -> bool
 
 // White space, a comment or an instruction.
 #[tactic(auto, unfolding(crate::specs::Reading::misc_part_of))]
-fn misc_part(
+fn misc_part<'a>(
     alloc: Global,
-    cursor: &mut Cursor<'_>,
-    events: &mut Vec<Event>,
+    cursor: &mut Cursor<'a>,
+    events: &mut Vec<Event<'a>>,
 ) -> Result<(), SyntaxFault>
     ensures { AddsContent result (seen_all events.old.items) (seen_all events.new.items) cursor.new (misc_part_of cursor.old) }
 {
@@ -44,12 +44,13 @@ fn misc_part(
 }
 
 /// Any number of white space, comments and instructions.
-pub fn misc(
+pub fn misc<'a>(
     alloc: Global,
-    cursor: &mut Cursor<'_>,
-    events: &mut Vec<Event>,
+    cursor: &mut Cursor<'a>,
+    events: &mut Vec<Event<'a>>,
 ) -> Result<(), SyntaxFault>
-    ensures { AddsContent result (seen_all events.old.items) (seen_all events.new.items) cursor.new (misc_of (suc (length cursor.old)) cursor.old) }
+    ensures { AddsContent result (seen_all events.old.items) (seen_all events.new.items) cursor.new
+        (misc_of (suc (length cursor.old)) cursor.old) }
 {
     while misc_follows(cursor) {
         misc_part(alloc, cursor, events)?;

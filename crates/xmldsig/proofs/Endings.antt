@@ -1,34 +1,281 @@
--- What an ending implies, whichever it is.
-use Rattle.std.proofs.Common.{◌≡◌, ◌++◌, ◌∙◌, ap, sym, arith, ℕ, List, length, take, Some, Result}
-use Rattle.std.proofs.lemmas.List.{take_all}
-use Rattle.core_validate.specs.declared.report.Report.{Report}
+-- What the words come to, by their endings.
+use Rattle.std.proofs.Common.{◌≡◌, ◌+◌, ◌-◌, ◌++◌, ◌∙◌, ap, sym, refl, arith, ℕ, true, false, List, [], ◌∷◌, length, take, cond, nat_lt, not, Option, Some, None, is_some, IsTrue, Result, Ok, Err, encode_utf8_all}
+use Rattle.std.specs.Option.{ForSome}
+use Rattle.std.proofs.lemmas.List.{take_all, append-nil}
+use Rattle.sig_base.specs.declared.lists.Views.{Views}
+use Rattle.sig_base.specs.declared.method.CanonMethod.{CanonMethod}
+use Rattle.xmldsig.specs.Form.{form_outcome}
+use Rattle.sig_outside.specs.Told.{Held}
+use Rattle.signed_views.specs.Handing.{CountsStand, Pair, EachGrew, pairs_of}
+use Rattle.signed_views.specs.Given.{handed_to}
+use Rattle.signed_views.specs.Names.{view_names}
+use Rattle.signed_views.specs.declared.handing.Handed.{Handed}
+use Rattle.signed_views.specs.declared.handing.Handed.TheVariants as handed
+use Rattle.transforms.specs.declared.outcome.Report.{Report}
+use Rattle.transforms.specs.declared.outcome.Report.TheVariants.{SignatureDiffers, ShortTruncation, Valid, DigestsDiffer}
+use Rattle.job_words.specs.declared.job.Job.{Job}
+use Rattle.job_words.specs.declared.job.Job.TheVariants as job
+use Rattle.xmldsig.specs.Ending.{GrewTowards, everywhere, prefixes}
+use Rattle.xmldsig.specs.Code.Ending.{AsksBy, EndsWords, FolderCounts, KeepersHave, RefusalEnds, ReportEnds, Settled, Settles, SettlesWords, ViewCause}
+use Rattle.xmldsig.specs.Outcome.{Answer, gives_octets, is_built, is_validation, names_asked, pairs_by, pairs_for, reported, run_outcome, views_of, written}
+use Rattle.xmldsig.specs.Outcome.{OfReport, OfOctets}
+use Rattle.xmldsig.specs.Outside.{Asking}
+use Rattle.xmldsig.specs.Texts.{report_text}
 use Rattle.xmldsig.specs.declared.ending.Refusal.{Refusal}
-use Rattle.xmldsig.specs.declared.job.Job.{Job}
+use Rattle.xmldsig.specs.declared.ending.Refusal.TheVariants as refusal
 use Rattle.xmldsig.specs.declared.ending.Ending.{Ending}
 use Rattle.xmldsig.specs.declared.ending.Ending.TheVariants as ending
-use Rattle.xmldsig.specs.Ending.{Delivered, EndsWords, AsksBy, FolderCounts}
 
-pub delivered_ends : (answer : Result Report Refusal) (job : Job) (e : Ending) → Delivered answer e → EndsWords (Some job) e
-delivered_ends answer job ending.Usage d = d
-delivered_ends answer job ending.ReadFault d = tt
-delivered_ends answer job ending.Memory d = tt
-delivered_ends answer job (ending.Refused refusal line) d = tt
-delivered_ends answer job (ending.Reported told text) d = tt
+-- ---- keepers
+
+-- keepers that weren't touched
+pub have_nothing : {K : Type 0} (pairs : K → Option (List Pair)) (keepers : List K) → EachGrew pairs (everywhere []) keepers keepers
+have_nothing pairs keepers = record { number = refl; each = λ k d lt told is. rw append-nil is }
+
+pub have_prefix : {K : Type 0} (pairs : K → Option (List Pair)) (keepers : List K) (all : List Pair) → GrewTowards pairs all keepers keepers
+have_prefix pairs keepers all = (λ k. 0, record { number = refl; each = λ k d lt told is. rw append-nil is })
+
+pub have_none : {K : Type 0} (pairs : K → Option (List Pair)) (keepers : List K) (all : List Pair) → all ≡ []
+    → EachGrew pairs (everywhere all) keepers keepers
+have_none pairs keepers all e = record { number = refl; each = λ k d lt told is. rw (e, append-nil) is }
+
+pub counts_same : {K : Type 0} (faults : K → ℕ) (keepers : List K) → CountsStand faults keepers keepers
+counts_same faults keepers = λ k d lt. omega arith
+
+-- all of the pairs are some first of them
+pub have_all : {K : Type 0} (pairs : K → Option (List Pair)) (old new : List K) (all : List Pair) → EachGrew pairs (everywhere all) old new
+    → GrewTowards pairs all old new
+have_all pairs old new all grew = (
+  λ k. length all,
+  record {
+    number = grew.number;
+    each = λ k d lt. rw (take_all (length all) all (omega arith)) (grew.each k d lt);
+  },
+)
+
+-- what was handed on is for each keeper some first of the pairs
+pub have_handed : {K : Type 0} (pairs : K → Option (List Pair)) (old new : List K) (all : List Pair) (h : Handed)
+    → EachGrew pairs (handed_to all h) old new → GrewTowards pairs all old new
+have_handed pairs old new all handed.Done grew = have_all pairs old new all grew
+have_handed pairs old new all (handed.Failed view keeper) grew = (λ k. cond (nat_lt (k + 1) keeper) view (view - 1), grew)
+have_handed pairs old new all (handed.Memory view keeper) grew = (λ k. cond (nat_lt (k + 1) keeper) view (view - 1), grew)
+
+-- the pairs that are handed on are those of the report
+pub pairs_are : (views : Option (List ℕ)) (report : Report) (dir bytes : List ℕ) (kept : Views) (names : List (List ℕ)) → views ≡ Some dir
+    → report ≡ Valid kept → bytes ≡ encode_utf8_all dir
+    → names ≡ view_names bytes (length kept.octets) → pairs_of names kept.octets ≡ pairs_for views report
+pairs_are views report dir bytes kept names v r b n = rw (v, r, n, b) refl
+
+pub have_handed_pairs : {K : Type 0} (pairs : K → Option (List Pair)) (old new : List K) (views : Option (List ℕ)) (report : Report)
+    (all : List Pair) (h : Handed)
+    → all ≡ pairs_for views report → EachGrew pairs (handed_to all h) old new → EachGrew pairs
+    (handed_to (pairs_for views report) h) old new
+have_handed_pairs pairs old new views report all h same grew = rw (← same) grew
+
+pub no_views : (views : Option (List ℕ)) (report : Report) → views ≡ None → pairs_for views report ≡ []
+no_views None report e = refl
+no_views (Some dir) report e = cc
+
+pub not_valid : (views : Option (List ℕ)) (report : Report) → ((kept : Views) → report ≡ Valid kept → ⊥) → pairs_for views report ≡ []
+not_valid None report other = refl
+not_valid (Some dir) SignatureDiffers other = refl
+not_valid (Some dir) (ShortTruncation bits) other = refl
+not_valid (Some dir) (DigestsDiffer numbers) other = refl
+not_valid (Some dir) (Valid kept) other = absurd (other kept refl)
+
+-- ---- from what is answered to what the words come to
 
 -- all names are some of them
 pub some_names : (names old new : List (List ℕ)) → new ≡ old ++ names → (n : ℕ) × (new ≡ old ++ take n names)
 some_names names old new is = (length names, is ∙ ap (λ ns. old ++ ns) (sym (take_all (length names) names (omega arith))))
 
-pub asks_by : (e : Ending) (names old new : List (List ℕ)) → new ≡ old ++ names → AsksBy e names old new
+pub asks_by : (x : Ending) (names old new : List (List ℕ)) → new ≡ old ++ names → AsksBy x names old new
 asks_by ending.Usage names old new is = is
 asks_by ending.ReadFault names old new is = some_names names old new is
 asks_by ending.Memory names old new is = some_names names old new is
+asks_by (ending.ViewFault view keeper) names old new is = is
 asks_by (ending.Refused refusal line) names old new is = is
 asks_by (ending.Reported told text) names old new is = is
+asks_by (ending.Written octets) names old new is = is
 
-pub delivered_counts : (answer : Result Report Refusal) (e : Ending) (before now : ℕ) → Delivered answer e → now ≡ before → FolderCounts e before now
-delivered_counts answer ending.Usage before now d is = is
-delivered_counts answer ending.ReadFault before now d is = absurd d
-delivered_counts answer ending.Memory before now d is = is
-delivered_counts answer (ending.Refused refusal line) before now d is = is
-delivered_counts answer (ending.Reported told text) before now d is = is
+-- a refusal of a job
+pub refusal_settled : {K : Type 0} (pairs : K → Option (List Pair)) (faults : K → ℕ) (named : Job) (held : Option Held) (x : Ending)
+    (old new : Asking) (keepers : List K) (cause : Refusal)
+    → RefusalEnds cause x → new.faults ≡ old.faults → ForSome held (λ files. run_outcome named files ≡ Err cause) → ForSome held
+    (λ files. new.names ≡ old.names ++ names_asked named files)
+    → Settled pairs faults (Some named) held x old new keepers keepers
+refusal_settled pairs faults named held ending.Usage old new keepers cause d calm outcome asked = absurd d
+refusal_settled pairs faults named held ending.ReadFault old new keepers cause d calm outcome asked = absurd d
+refusal_settled pairs faults named held ending.Memory old new keepers cause d calm outcome asked = record {
+  words = tt;
+  folder = calm;
+  number = refl;
+  counts = counts_same faults keepers;
+  cause = tt;
+  over = λ files e. record { outcome = tt; asked = some_names _ _ _ (asked files e); have = have_prefix pairs keepers _ };
+}
+refusal_settled pairs faults named held (ending.ViewFault view keeper) old new keepers cause d calm outcome asked = absurd d
+refusal_settled pairs faults named held (ending.Refused refusal line) old new keepers cause d calm outcome asked = record {
+  words = tt;
+  folder = calm;
+  number = refl;
+  counts = counts_same faults keepers;
+  cause = tt;
+  over = λ files e. record { outcome = (outcome files e ∙ ap Err (sym d.0), d.1); asked = asked files e; have = have_nothing pairs keepers };
+}
+refusal_settled pairs faults named held (ending.Reported report text) old new keepers cause d calm outcome asked = absurd d
+refusal_settled pairs faults named held (ending.Written octets) old new keepers cause d calm outcome asked = absurd d
+
+-- a job that isn't built
+pub unbuilt_settled : {K : Type 0} (pairs : K → Option (List Pair)) (faults : K → ℕ) (named : Job) (held : Option Held) (x : Ending)
+    (old : Asking) (keepers : List K)
+    → RefusalEnds refusal.NotBuilt x → ((files : Held) → run_outcome named files ≡ Err refusal.NotBuilt) →
+    ((files : Held) → names_asked named files ≡ [])
+    → Settled pairs faults (Some named) held x old old keepers keepers
+unbuilt_settled pairs faults named held x old keepers d outcome names =
+    refusal_settled pairs faults named held x old old keepers refusal.NotBuilt d refl (λ files e. outcome files)
+    (λ files e. rw (names files) (sym (append-nil old.names)))
+
+-- a fault of the folder, or want of memory for what it gives
+pub fault_settled : {K : Type 0} (pairs : K → Option (List Pair)) (faults : K → ℕ) (named : Job) (held : Option Held) (old new : Asking)
+    (keepers : List K)
+    → is_built named ≡ true → FolderCounts ending.ReadFault old.faults new.faults → ForSome held
+    (λ files. AsksBy ending.ReadFault (names_asked named files) old.names new.names)
+    → Settled pairs faults (Some named) held ending.ReadFault old new keepers keepers
+fault_settled pairs faults named held old new keepers built rose asked = record {
+  words = built;
+  folder = rose;
+  number = refl;
+  counts = counts_same faults keepers;
+  cause = tt;
+  over = λ files e. record { outcome = tt; asked = asked files e; have = have_nothing pairs keepers };
+}
+
+pub memory_settled : {K : Type 0} (pairs : K → Option (List Pair)) (faults : K → ℕ) (named : Job) (held : Option Held) (old new : Asking)
+    (keepers : List K)
+    → new.faults ≡ old.faults → ForSome held (λ files. AsksBy ending.Memory (names_asked named files) old.names new.names)
+    → Settled pairs faults (Some named) held ending.Memory old new keepers keepers
+memory_settled pairs faults named held old new keepers calm asked = record {
+  words = tt;
+  folder = calm;
+  number = refl;
+  counts = counts_same faults keepers;
+  cause = tt;
+  over = λ files e. record { outcome = tt; asked = asked files e; have = have_prefix pairs keepers _ };
+}
+
+-- octets
+pub octets_settled : {K : Type 0} (pairs : K → Option (List Pair)) (faults : K → ℕ) (named : Job) (held : Option Held) (old new : Asking)
+    (keepers : List K) (octets : List ℕ)
+    → gives_octets named ≡ true → new.faults ≡ old.faults → ForSome held (λ files. run_outcome named files ≡ Ok (OfOctets octets))
+    → ForSome held (λ files. new.names ≡ old.names ++ names_asked named files)
+    → Settled pairs faults (Some named) held (ending.Written octets) old new keepers keepers
+octets_settled pairs faults named held old new keepers octets gives calm outcome asked = record {
+  words = gives;
+  folder = calm;
+  number = refl;
+  counts = counts_same faults keepers;
+  cause = tt;
+  over = λ files e. record { outcome = outcome files e; asked = asked files e; have = have_none pairs keepers _ (ap (pairs_by (views_of named)) (outcome files e)) };
+}
+
+-- a report
+report_words : (named : Job) (views : Option (List ℕ)) (report : Report) (x : Ending) → is_validation named ≡ true → views_of named ≡ views
+    → ReportEnds views report x → EndsWords (Some named) x
+report_words named views report ending.Usage v same d = d
+report_words named views report ending.ReadFault v same d = absurd d
+report_words named views report ending.Memory v same d = tt
+report_words named views report (ending.ViewFault view keeper) v same d = (v, rw same d.0)
+report_words named views report (ending.Refused refusal line) v same d = tt
+report_words named views report (ending.Reported told text) v same d = v
+report_words named views report (ending.Written octets) v same d = absurd d
+
+report_counts : (views : Option (List ℕ)) (report : Report) (x : Ending) (before now : ℕ) → ReportEnds views report x → now ≡ before
+    → FolderCounts x before now
+report_counts views report ending.Usage before now d is = is
+report_counts views report ending.ReadFault before now d is = absurd d
+report_counts views report ending.Memory before now d is = is
+report_counts views report (ending.ViewFault view keeper) before now d is = is
+report_counts views report (ending.Refused refusal line) before now d is = is
+report_counts views report (ending.Reported told text) before now d is = is
+report_counts views report (ending.Written octets) before now d is = is
+
+report_settles : (views : Option (List ℕ)) (outcome : Result Answer Refusal) (report : Report) (x : Ending) → ReportEnds views report x
+    → outcome ≡ Ok (OfReport report) → Settles views outcome x
+report_settles views outcome report ending.Usage d is = d
+report_settles views outcome report ending.ReadFault d is = tt
+report_settles views outcome report ending.Memory d is = tt
+report_settles views outcome report (ending.ViewFault view keeper) d is = rw is d
+report_settles views outcome report (ending.Refused refusal line) d is = absurd d
+report_settles views outcome report (ending.Reported told text) d is =
+    (is ∙ ap (λ r. Ok (OfReport r)) (sym d.0), d.1 ∙ ap report_text (sym d.0))
+report_settles views outcome report (ending.Written octets) d is = absurd d
+
+pub report_settled : {K : Type 0} (pairs : K → Option (List Pair)) (faults : K → ℕ) (named : Job) (views : Option (List ℕ))
+    (held : Option Held) (x : Ending) (old new : Asking) (keepers keepers' : List K) (report : Report)
+    → is_validation named ≡ true → views_of named ≡ views → ReportEnds views report x → KeepersHave
+    (pairs_for views report) x pairs keepers keepers'
+    → length keepers' ≡ length keepers → CountsStand faults keepers keepers' → ViewCause faults x keepers keepers'
+    → new.faults ≡ old.faults → ForSome held (λ files. run_outcome named files ≡ Ok (OfReport report)) → ForSome held
+    (λ files. new.names ≡ old.names ++ names_asked named files)
+    → Settled pairs faults (Some named) held x old new keepers keepers'
+report_settled pairs faults named views held x old new keepers keepers' report is_job same d have number counts cause calm outcome asked =
+    record {
+      words = report_words named views report x is_job same d;
+      folder = report_counts views report x old.faults new.faults d calm;
+      number = number;
+      counts = counts;
+      cause = cause;
+      over = λ files e. record {
+        outcome = rw same (report_settles views (run_outcome named files) report x d (outcome files e));
+        asked = asks_by x (names_asked named files) old.names new.names (asked files e);
+        have = rw (same, outcome files e) have;
+      };
+    }
+
+-- ---- from the steps of a job to its outcome
+
+pub reported_ok : (outcome : Result Report Refusal) (report : Report) → outcome ≡ Ok report → reported outcome ≡ Ok (OfReport report)
+reported_ok outcome report e = ap reported e
+
+pub reported_err : (outcome : Result Report Refusal) (cause : Refusal) → outcome ≡ Err cause → reported outcome ≡ Err cause
+reported_err outcome cause e = ap reported e
+
+pub written_ok : (outcome : Result (List ℕ) Refusal) (octets : List ℕ) → outcome ≡ Ok octets → written outcome ≡ Ok (OfOctets octets)
+written_ok outcome octets e = ap written e
+
+pub written_err : (outcome : Result (List ℕ) Refusal) (cause : Refusal) → outcome ≡ Err cause → written outcome ≡ Err cause
+written_err outcome cause e = ap written e
+
+-- ---- words that name no job, and want of memory for them
+
+pub usage_settled : {K : Type 0} (pairs : K → Option (List Pair)) (faults : K → ℕ) (held : Option Held) (old : Asking) (keepers : List K)
+    → Settled pairs faults None held ending.Usage old old keepers keepers
+usage_settled pairs faults held old keepers = record {
+  words = tt;
+  folder = refl;
+  number = refl;
+  counts = counts_same faults keepers;
+  cause = tt;
+  over = λ files e. record { outcome = tt; asked = sym (append-nil old.names); have = have_nothing pairs keepers };
+}
+
+memory_words : (named : Option Job) → EndsWords named ending.Memory
+memory_words None = tt
+memory_words (Some job) = tt
+
+memory_settles : (named : Option Job) (files : Held) → SettlesWords named files ending.Memory
+memory_settles None files = tt
+memory_settles (Some job) files = tt
+
+pub words_memory_settled : {K : Type 0} (pairs : K → Option (List Pair)) (faults : K → ℕ) (named : Option Job) (held : Option Held)
+    (old : Asking) (keepers : List K)
+    → Settled pairs faults named held ending.Memory old old keepers keepers
+words_memory_settled pairs faults named held old keepers = record {
+  words = memory_words named;
+  folder = refl;
+  number = refl;
+  counts = counts_same faults keepers;
+  cause = tt;
+  over = λ files e. record { outcome = memory_settles named files; asked = (0, sym (append-nil old.names)); have = have_prefix pairs keepers _ };
+}

@@ -1,7 +1,8 @@
-pub mod Decisions
 pub mod Endings
-pub mod Finds
+pub mod FilesAnswer
+pub mod FormLaws
 pub mod Runs
+pub mod Steps
+pub mod Stopped
 pub mod Told
-pub mod WordCounts
 mod Worked

@@ -1,8 +1,12 @@
-pub mod Decision
 pub mod Ending
+pub mod Files
+pub mod Form
 pub mod Headline
-pub mod Job
 pub mod Outcome
+pub mod Outside
 pub mod Printed
 pub mod Status
+pub mod Stops
 pub mod Texts
+pub mod Validation
+pub mod Code

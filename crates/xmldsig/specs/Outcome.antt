@@ -1,62 +1,91 @@
--- What a job comes to over the bytes that a folder holds, and the names that it asks for.
-use Rattle.std.specs.Prelude.{◌≡◌, ◌≤◌, ◌++◌, ℕ, List, [], ◌∷◌, length, take, nat_le, if◌then◌else◌, encode_utf8_all, Option, Some, None, Result, Ok, Err}
-use Rattle.sig_base.specs.Counts.{Rose}
+-- What a job comes to over the files that a folder holds, and the names that it asks for.
+use Rattle.std.specs.Prelude.{◌&&◌, ◌||◌, ℕ, Bool, true, false, not, List, [], ◌∷◌, length, is_some, if◌then◌else◌, encode_utf8_all, Option, Some, None, Result, Ok, Err}
+use Rattle.sig_base.specs.Outcomes.{and_then}
 use Rattle.sig_outside.specs.Told.{Held}
-use Rattle.core_validate.specs.declared.report.Report.{Report}
-use Rattle.xml_read.specs.declared.read.ReadRefusal.TheVariants.{TooLarge}
-use Rattle.xmldsig.specs.Decision.{decision}
-use Rattle.xmldsig.specs.declared.job.Job.{Job}
+use Rattle.signed_views.specs.Handing.{Pair, pairs_of}
+use Rattle.signed_views.specs.Names.{view_names}
+use Rattle.transforms.specs.declared.outcome.Report.{Report}
+use Rattle.transforms.specs.declared.outcome.Report.TheVariants as verdict
+use Rattle.job_words.specs.declared.job.Job.{Job}
+use Rattle.job_words.specs.declared.job.Job.TheVariants as job
+use Rattle.xmldsig.specs.Form.{form_outcome}
+use Rattle.xmldsig.specs.Validation.{validation_names, validation_outcome}
 use Rattle.xmldsig.specs.declared.ending.Refusal.{Refusal}
 use Rattle.xmldsig.specs.declared.ending.Refusal.TheVariants as refusal
-use Rattle.xmldsig.specs.declared.find.Stop.{Stop}
-use Rattle.xmldsig.specs.declared.find.Stop.TheVariants as stop
 
--- a step, and where it is not refused the next one
-abbrev pub first_of : {A B : Type 0} → Result A Refusal → (A → Result B Refusal) → Result B Refusal
-first_of (Ok x) next = next x
-first_of (Err r) next = Err r
+-- what a command comes to where it isn't refused: the report of a validation, or octets
+pub data Answer : Type 0 where
+  OfReport : Report → Answer
+  OfOctets : List ℕ → Answer
 
--- the bytes of a file that is held, within a limit
-abbrev pub file_outcome : Option (List ℕ) → (limit : ℕ) → (absent too_long : Refusal) → Result (List ℕ) Refusal
-file_outcome None limit absent too_long = Err absent
-file_outcome (Some bytes) limit absent too_long = if nat_le (length bytes) limit then Ok bytes else Err too_long
+-- ---- what is built today: a validation without manifests, and canonical forms
 
-abbrev pub document_outcome : Job → Held → Result (List ℕ) Refusal
-document_outcome job files = file_outcome (files (encode_utf8_all job.doc)) 4194304 refusal.NoDocument (refusal.Read TooLarge)
+abbrev pub is_validation : Job → Bool
+is_validation (job.Validate asked views manifests) = not manifests
+is_validation other = false
 
-abbrev pub keys_outcome : Job → Held → Result (List ℕ) Refusal
-keys_outcome job files = file_outcome (files (encode_utf8_all job.keys)) 16777216 refusal.NoKeys refusal.KeysTooLarge
+abbrev pub gives_octets : Job → Bool
+gives_octets (job.Canon doc method id xpath prefixes) = true
+gives_octets other = false
 
--- the report of the job, or its first refusal
-abbrev pub run_outcome : Job → Held → Result Report Refusal
-run_outcome job files = first_of (document_outcome job files) (λ doc. first_of (keys_outcome job files) (λ keys. decision doc keys))
+abbrev pub is_built : Job → Bool
+is_built named = is_validation named || gives_octets named
 
--- the names that are asked for behind a step: none, where it is refused
-abbrev pub asked_behind : {A : Type 0} → Result A Refusal → (A → List (List ℕ)) → List (List ℕ)
-asked_behind (Ok x) names = names x
-asked_behind (Err r) names = []
+-- ---- what a job comes to
 
--- the names that the job asks for, up to its first refusal
+abbrev pub reported : Result Report Refusal → Result Answer Refusal
+reported outcome = and_then outcome (λ r. Ok (OfReport r))
+
+abbrev pub written : Result (List ℕ) Refusal → Result Answer Refusal
+written outcome = and_then outcome (λ octets. Ok (OfOctets octets))
+
+-- the answer of a job, or its first refusal
+abbrev pub run_outcome : Job → Held → Result Answer Refusal
+run_outcome (job.Validate asked views manifests) files =
+    if manifests then Err refusal.NotBuilt else reported (validation_outcome asked (is_some views) files)
+run_outcome (job.Canon doc method id xpath prefixes) files = written (form_outcome doc method id xpath prefixes files)
+run_outcome other files = Err refusal.NotBuilt
+
+-- the names that a job asks for, up to its first refusal
 abbrev pub names_asked : Job → Held → List (List ℕ)
-names_asked job files = encode_utf8_all job.doc ∷ asked_behind (document_outcome job files) (λ doc. encode_utf8_all job.keys ∷ [])
+names_asked (job.Validate asked views manifests) files = if manifests then [] else validation_names asked (is_some views) files
+names_asked (job.Canon doc method id xpath prefixes) files = encode_utf8_all doc ∷ []
+names_asked other files = []
 
--- an answer is the outcome, unless it is a fault or want of memory
-abbrev pub Answers : {A : Type 0} → Result A Stop → Result A Refusal → Type 0
-Answers (Ok x) o = o ≡ Ok x
-Answers (Err (stop.Refused r)) o = o ≡ Err r
-Answers (Err stop.ReadFault) o = Unit {0}
-Answers (Err stop.Memory) o = Unit {0}
+-- ---- the views
 
--- all of the names were asked for; with a fault or want of memory the first ones
-abbrev pub AsksAll : {A : Type 0} → Result A Stop → List (List ℕ) → List (List ℕ) → List (List ℕ) → Type 0
-AsksAll (Ok x) names old new = new ≡ old ++ names
-AsksAll (Err (stop.Refused r)) names old new = new ≡ old ++ names
-AsksAll (Err stop.ReadFault) names old new = (n : ℕ) × (new ≡ old ++ take n names)
-AsksAll (Err stop.Memory) names old new = (n : ℕ) × (new ≡ old ++ take n names)
+-- the folder for the views, where they are asked for
+abbrev pub views_of : Job → Option (List ℕ)
+views_of (job.Validate asked views manifests) = views
+views_of other = None
 
--- the folder's count of faults moves only with a fault
-abbrev pub StopCounts : {A : Type 0} → Result A Stop → ℕ → ℕ → Type 0
-StopCounts (Ok x) before now = now ≡ before
-StopCounts (Err (stop.Refused r)) before now = now ≡ before
-StopCounts (Err stop.ReadFault) before now = (before ≤ now) × Rose before now
-StopCounts (Err stop.Memory) before now = now ≡ before
+-- the views of a valid report, under their names, in the order of the References, where they are asked for
+abbrev pub pairs_for : Option (List ℕ) → Report → List Pair
+pairs_for (Some dir) (verdict.Valid views) = pairs_of (view_names (encode_utf8_all dir) (length views.octets)) views.octets
+pairs_for (Some dir) other = []
+pairs_for None other = []
+
+abbrev pub pairs_by : Option (List ℕ) → Result Answer Refusal → List Pair
+pairs_by views (Ok (OfReport report)) = pairs_for views report
+pairs_by views (Ok (OfOctets octets)) = []
+pairs_by views (Err cause) = []
+
+-- ---- the same of words, which may name no job
+
+abbrev pub names_for : Option Job → Held → List (List ℕ)
+names_for None files = []
+names_for (Some named) files = names_asked named files
+
+-- what each keeper is to receive: nothing, unless the answer is valid and views are asked for
+abbrev pub wanted : Option Job → Held → List Pair
+wanted None files = []
+wanted (Some named) files = pairs_by (views_of named) (run_outcome named files)
+
+abbrev pub IsValid : Report → Type 0
+IsValid (verdict.Valid views) = Unit {0}
+IsValid other = ⊥
+
+abbrev pub IsValidOutcome : Result Answer Refusal → Type 0
+IsValidOutcome (Ok (OfReport report)) = IsValid report
+IsValidOutcome (Ok (OfOctets octets)) = ⊥
+IsValidOutcome (Err cause) = ⊥

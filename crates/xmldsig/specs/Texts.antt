@@ -1,19 +1,29 @@
 -- What is printed. This project's own texts.
 use Rattle.std.specs.Prelude.{ℕ, ◌+◌, List, [], ◌∷◌, ◌++◌, codes, decimal, Result, Ok, Err}
 use Rattle.std.specs.List.{flat_map}
-use Rattle.core_validate.specs.declared.report.Report.{Report}
-use Rattle.core_validate.specs.declared.report.Report.TheVariants.{SignatureDiffers, ShortTruncation, Valid, DigestsDiffer}
+use Rattle.transforms.specs.declared.outcome.Report.{Report}
+use Rattle.transforms.specs.declared.outcome.Report.TheVariants.{SignatureDiffers, ShortTruncation, Valid, DigestsDiffer}
 use Rattle.digests_hmac.specs.declared.key_table.KeyFault.{KeyFault}
 use Rattle.digests_hmac.specs.declared.key_table.KeyFault.TheVariants as key
 use Rattle.dsig_fields.specs.Names.{local_name}
 use Rattle.dsig_fields.specs.declared.refusal.FieldRefusal.{FieldRefusal}
 use Rattle.dsig_fields.specs.declared.refusal.FieldRefusal.TheVariants as field
-use Rattle.core_validate.specs.declared.refusal.RefRefusal.{RefRefusal}
-use Rattle.core_validate.specs.declared.refusal.RefRefusal.TheVariants as target
-use Rattle.core_validate.specs.declared.refusal.ValidateRefusal.{ValidateRefusal}
-use Rattle.core_validate.specs.declared.refusal.ValidateRefusal.TheVariants as validation
+use Rattle.transforms.specs.declared.refusal.RefRefusal.{RefRefusal}
+use Rattle.transforms.specs.declared.refusal.RefRefusal.TheVariants as target
+use Rattle.transforms.specs.declared.outcome.ValidateRefusal.{ValidateRefusal}
+use Rattle.transforms.specs.declared.outcome.ValidateRefusal.TheVariants as validation
+use Rattle.uri_refs.specs.declared.catalog.CatalogFault.{CatalogFault}
+use Rattle.uri_refs.specs.declared.catalog.CatalogFault.TheVariants as catalog
+use Rattle.uri_refs.specs.declared.refusal.UriRefusal.{UriRefusal}
+use Rattle.uri_refs.specs.declared.refusal.UriRefusal.TheVariants as uri
+use Rattle.xpath_eval.specs.declared.refusal.EvalRefusal.{EvalRefusal}
+use Rattle.xpath_eval.specs.declared.refusal.EvalRefusal.TheVariants as evaluated
+use Rattle.xpath_syntax.specs.declared.refusal.SyntaxRefusal.{SyntaxRefusal}
+use Rattle.xpath_syntax.specs.declared.refusal.SyntaxRefusal.TheVariants as parsed
 use Rattle.xml_read.specs.declared.read.ReadRefusal.{ReadRefusal}
 use Rattle.xml_read.specs.declared.read.ReadRefusal.TheVariants as read
+use Rattle.xmldsig.specs.Outcome.{Answer}
+use Rattle.xmldsig.specs.Outcome.{OfReport, OfOctets}
 use Rattle.xmldsig.specs.declared.ending.Refusal.{Refusal}
 use Rattle.xmldsig.specs.declared.ending.Refusal.TheVariants as refusal
 
@@ -76,29 +86,93 @@ field_words (field.TooManyTransforms row) = one_numbered (codes " TooManyTransfo
 field_words (field.TooManyFilters row) = one_numbered (codes " TooManyFilters") row
 field_words field.Memory = codes " Memory"
 
--- where a step is refused, its number stands before the word
+abbrev pub catalog_words : CatalogFault → List ℕ
+catalog_words (catalog.BadLine line) = one_numbered (codes " CatalogBadLine") line
+catalog_words (catalog.Repeated line earlier) = two_numbered (codes " CatalogRepeated") line earlier
+catalog_words catalog.TooMany = codes " CatalogTooMany"
+catalog_words catalog.Memory = codes " Memory"
+
+abbrev pub uri_words : UriRefusal → List ℕ
+uri_words uri.UnknownPointer = codes " UnknownPointer"
+uri_words uri.NotUri = codes " NotUri"
+uri_words uri.HasFragment = codes " HasFragment"
+uri_words uri.HasQuery = codes " HasQuery"
+uri_words uri.Foreign = codes " Foreign"
+uri_words uri.BadSegment = codes " BadSegment"
+uri_words uri.Memory = codes " Memory"
+
+-- where a step is refused, its number stands before the words
+abbrev pub step_words : (step : ℕ) → (words : List ℕ) → List ℕ
+step_words step words = one_numbered (codes " step") step ++ words
+
+-- and that of the expression within it
+abbrev pub part_words : (step part : ℕ) → (words : List ℕ) → List ℕ
+part_words step part words = step_words step (one_numbered (codes " part") part ++ words)
+
+abbrev pub syntax_words : SyntaxRefusal → List ℕ
+syntax_words parsed.TooLong = codes " TooLong"
+syntax_words parsed.NotXPath = codes " NotXPath"
+syntax_words parsed.TooDeep = codes " TooDeep"
+syntax_words parsed.Fraction = codes " Fraction"
+syntax_words parsed.NumberRange = codes " NumberRange"
+syntax_words parsed.Div = codes " Div"
+syntax_words parsed.Variable = codes " Variable"
+syntax_words parsed.UnknownFunction = codes " UnknownFunction"
+syntax_words parsed.Arity = codes " Arity"
+syntax_words parsed.UnboundPrefix = codes " UnboundPrefix"
+syntax_words parsed.Memory = codes " Memory"
+
+abbrev pub eval_words : EvalRefusal → List ℕ
+eval_words evaluated.Fraction = codes " Fraction"
+eval_words evaluated.NumberRange = codes " NumberRange"
+eval_words evaluated.NotNodes = codes " NotNodes"
+eval_words (evaluated.AmbiguousId first second) = two_numbered (codes " AmbiguousId") first second
+eval_words evaluated.HereElsewhere = codes " HereElsewhere"
+eval_words evaluated.Memory = codes " Memory"
+
+-- a fault of the folder is no refusal, and no outcome has it; of a sink there is none
 abbrev pub reference_words : RefRefusal → List ℕ
+reference_words (target.Uri cause) = uri_words cause
 reference_words target.NoSuchId = codes " NoSuchId"
 reference_words (target.AmbiguousId first second) = two_numbered (codes " AmbiguousId") first second
-reference_words (target.OctetsTooLong step) = one_numbered (codes " step") step ++ codes " OctetsTooLong"
+reference_words target.Absent = codes " Absent"
+reference_words target.TooLong = codes " TooLong"
+reference_words (target.Read step cause) = step_words step (read_words cause)
+reference_words (target.Syntax step part cause) = part_words step part (syntax_words cause)
+reference_words (target.Eval step part cause) = part_words step part (eval_words cause)
+reference_words (target.NotBase64 step) = step_words step (codes " NotBase64")
+reference_words (target.EnvelopedElsewhere step) = step_words step (codes " EnvelopedElsewhere")
+reference_words (target.OctetsTooLong step) = step_words step (codes " OctetsTooLong")
+reference_words target.FetchFailed = codes " FetchFailed"
+reference_words target.SinkRefused = codes " SinkRefused"
+reference_words target.Memory = codes " Memory"
 
 abbrev pub validate_words : ValidateRefusal → List ℕ
 validate_words validation.NoSignature = codes " NoSignature"
 validate_words (validation.Fields cause) = field_words cause
-validate_words validation.NotBuilt = codes " NotBuilt"
 validate_words validation.NoKey = codes " NoKey"
 validate_words validation.UnknownKey = codes " UnknownKey"
 validate_words validation.OctetsTooLong = codes " OctetsTooLong"
 validate_words (validation.Reference i cause) = one_numbered (codes " reference") i ++ reference_words cause
+validate_words validation.FetchFailed = codes " FetchFailed"
 validate_words validation.Memory = codes " Memory"
 
 abbrev pub refusal_words : Refusal → List ℕ
+refusal_words refusal.NotBuilt = codes " NotBuilt"
 refusal_words refusal.NoDocument = codes " NoDocument"
 refusal_words refusal.NoKeys = codes " NoKeys"
 refusal_words refusal.KeysTooLarge = codes " KeysTooLarge"
 refusal_words (refusal.Keys fault) = key_words fault
+refusal_words refusal.NoCatalog = codes " NoCatalog"
+refusal_words refusal.CatalogTooLarge = codes " CatalogTooLarge"
+refusal_words (refusal.Catalog fault) = catalog_words fault
 refusal_words (refusal.Read cause) = read_words cause
 refusal_words (refusal.Validate cause) = validate_words cause
+refusal_words (refusal.Syntax cause) = syntax_words cause
+refusal_words (refusal.Eval cause) = eval_words cause
+refusal_words refusal.NoSuchId = codes " NoSuchId"
+refusal_words (refusal.AmbiguousId first second) = two_numbered (codes " AmbiguousId") first second
+refusal_words refusal.OctetsTooLong = codes " OctetsTooLong"
 
 -- the lines on err
 abbrev pub refusal_line : Refusal → List ℕ
@@ -113,14 +187,19 @@ read_fault_line = codes "fault read\n"
 abbrev pub write_fault_line : List ℕ
 write_fault_line = codes "fault write\n"
 
+-- the numbers of the view and of the keeper, from 1
+abbrev pub view_fault_line : (view keeper : ℕ) → List ℕ
+view_fault_line view keeper = codes "fault view " ++ decimal view ++ codes " " ++ decimal keeper ++ codes "\n"
+
 abbrev pub memory_line : List ℕ
 memory_line = codes "fault memory\n"
 
 -- what an outcome prints on out, and on err
-abbrev pub out_text : Result Report Refusal → List ℕ
-out_text (Ok report) = report_text report
-out_text (Err refusal) = []
+abbrev pub out_text : Result Answer Refusal → List ℕ
+out_text (Ok (OfReport report)) = report_text report
+out_text (Ok (OfOctets octets)) = octets
+out_text (Err cause) = []
 
-abbrev pub err_text : Result Report Refusal → List ℕ
-err_text (Ok report) = []
-err_text (Err refusal) = refusal_line refusal
+abbrev pub err_text : Result Answer Refusal → List ℕ
+err_text (Ok answer) = []
+err_text (Err cause) = refusal_line cause

@@ -5,7 +5,10 @@ ghost use Rattle.xmldsig.specs.Status.{exit_code};
 use core_validate::{Report, ValidateRefusal};
 use digests_hmac::KeyFault;
 use sig_base::Octets;
+use uri_refs::CatalogFault;
 use xml_read::ReadRefusal;
+use xpath_eval::EvalRefusal;
+use xpath_syntax::SyntaxRefusal;
 
 /// How a run ended.
 #[derive(Clone, Copy, Debug, PartialEq, Eq)]
@@ -48,9 +51,11 @@ impl Status {
     }
 }
 
-/// Why a job has no report.
+/// Why a job has no answer.
 #[derive(Clone, Copy, Debug, PartialEq, Eq)]
 pub enum Refusal {
+    /// What the words ask for isn't built yet.
+    NotBuilt,
     /// The folder has no document of that name.
     NoDocument,
     /// The folder has no key file of that name.
@@ -59,10 +64,26 @@ pub enum Refusal {
     KeysTooLarge,
     /// The key file spells no table of keys.
     Keys(KeyFault),
+    /// The folder has no catalog of that name.
+    NoCatalog,
+    /// The catalog is above its limit, 1,048,576 bytes.
+    CatalogTooLarge,
+    /// The file spells no catalog.
+    Catalog(CatalogFault),
     /// The bytes are no document.
     Read(ReadRefusal),
     /// The signature is refused.
     Validate(ValidateRefusal),
+    /// The expression can't be read.
+    Syntax(SyntaxRefusal),
+    /// The expression can't be evaluated.
+    Eval(EvalRefusal),
+    /// No element bears the ID.
+    NoSuchId,
+    /// Several elements bear the ID; these are the rows of the first two.
+    AmbiguousId(u32, u32),
+    /// The canonical form is longer than 33,554,432 octets.
+    OctetsTooLong,
 }
 
 /// What a run came to, before anything is printed.
@@ -74,8 +95,12 @@ pub(crate) enum Ending {
     ReadFault,
     /// Memory that was asked for was not given.
     Memory,
+    /// That keeper failed at that view, both counted from 1.
+    ViewFault { view: u64, keeper: u64 },
     /// The job is refused, which this line says.
     Refused { refusal: Refusal, line: Octets },
     /// The validation gave a report, of which this is the text.
     Reported { report: Report, text: Octets },
+    /// The command gave these octets.
+    Written { octets: Octets },
 }

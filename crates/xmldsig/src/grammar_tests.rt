@@ -117,11 +117,6 @@ fn contents_of_references(rt: HostRuntime) -> Result<(), Fail> {
             "",
             "refused BadFilter 26\n",
         ),
-        (
-            "<Transforms><Transform Algorithm=\"http://www.w3.org/2000/09/xmldsig#base64\"/></Transforms>",
-            "<DigestValue>AA==</DigestValue>",
-            "refused NotBuilt\n",
-        ),
     ] {
         let text = joined(
             alloc,

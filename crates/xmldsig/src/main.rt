@@ -1,37 +1,63 @@
 //! `xmldsig`: validates XML signatures with HMAC keys, and says which part of a document was signed.
 #![tactic(auto)]
 
-mod decide;
 mod ending;
-mod find;
+mod fault_line;
+mod files;
+mod form;
 #[cfg(test)]
 mod grammar_tests;
-mod job;
+#[cfg(test)]
+mod line_tests;
 mod print;
 mod refusals;
 mod report;
 mod settle;
 #[cfg(test)]
 mod signed_tests;
+mod stop;
 #[cfg(test)]
 mod tests;
 mod top;
+mod validation;
 
-use sig_outside::{DirFolder, MemKeeper, Stream, StreamSink};
+use ending::Status;
+use job_words::WordsFault;
+use sig_outside::{DirFolder, DirKeeper, Stream, StreamSink, ViewKeeper};
 use std::process::ExitCode;
 use std::{env, io};
-use top::run;
+use top::{end_without_words, run};
 
-fn main(rt: HostRuntime) -> io::Result<ExitCode> {
-    let alloc = rt.alloc();
-    let mut words = Vec::new(alloc);
-    for word in env::args(&rt)?.skip(1) {
+/// The words behind the program's name. Words that aren't UTF-8 name no job.
+fn words_of(rt: HostRuntime) -> Result<Vec<String>, WordsFault> {
+    let given = match env::args(&rt) {
+        Ok(given) => given,
+        Err(error) if error.kind() == io::ErrorKind::OutOfMemory => return Err(WordsFault::Memory),
+        Err(_) => return Err(WordsFault::Usage),
+    };
+    let mut words = Vec::new(rt.alloc());
+    for word in given.skip(1) {
         words.push(word)?;
     }
+    Ok(words)
+}
+
+/// Runs the words over the files below the current directory.
+fn work(rt: HostRuntime, out: &mut StreamSink, err: &mut StreamSink) -> Result<Status, WordsFault> {
+    let alloc = rt.alloc();
+    let words = words_of(rt)?;
     let mut folder = DirFolder::new(rt);
-    let mut keepers: Vec<MemKeeper> = Vec::new(alloc);
+    let mut keepers: Vec<Box<dyn ViewKeeper>> = Vec::new(alloc);
+    keepers.push(Box::new(alloc, DirKeeper::new(rt))?)?;
+    Ok(run(alloc, &words, &mut folder, &mut keepers, out, err))
+}
+
+fn main(rt: HostRuntime) -> ExitCode {
     let mut out = StreamSink::new(rt, Stream::Out);
     let mut err = StreamSink::new(rt, Stream::Err);
-    let status = run(alloc, &words, &mut folder, &mut keepers, &mut out, &mut err);
-    Ok(ExitCode::from(status.code()))
+    let status = match work(rt, &mut out, &mut err) {
+        Ok(status) => status,
+        Err(fault) => end_without_words(fault, &mut out, &mut err),
+    };
+    ExitCode::from(status.code())
 }

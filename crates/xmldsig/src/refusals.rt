@@ -1,6 +1,6 @@
 //! The line of a refusal.
 ghost use Rattle.std.specs.Prelude.{◌≡◌, ◌++◌, IfOk, codes, string_bytes};
-ghost use Rattle.xmldsig.specs.Texts.{field_words, key_words, one_numbered, read_words, reference_words, refusal_line, refusal_words, two_numbered, validate_words};
+ghost use Rattle.xmldsig.specs.Texts.{catalog_words, eval_words, field_words, key_words, one_numbered, part_words, read_words, reference_words, refusal_line, refusal_words, step_words, syntax_words, two_numbered, uri_words, validate_words};
 
 use crate::ending::Refusal;
 use core_validate::{RefRefusal, ValidateRefusal};
@@ -8,7 +8,10 @@ use digests_hmac::KeyFault;
 use dsig_fields::FieldRefusal;
 use sig_base::{NoMemory, Octets};
 use std::alloc::Global;
+use uri_refs::{CatalogFault, UriRefusal};
 use xml_read::ReadRefusal;
+use xpath_eval::EvalRefusal;
+use xpath_syntax::SyntaxRefusal;
 
 /// A word that says all.
 fn bare(alloc: Global, word: &str) -> Result<String, NoMemory>
@@ -83,18 +86,120 @@ fn field_words(alloc: Global, cause: FieldRefusal) -> Result<String, NoMemory>
     }
 }
 
+/// The words of a fault of the catalog.
+fn catalog_words(alloc: Global, fault: CatalogFault) -> Result<String, NoMemory>
+    ensures { IfOk result (λ words. string_bytes words ≡ catalog_words fault) }
+{
+    match fault {
+        CatalogFault::BadLine(line) => one_numbered(alloc, " CatalogBadLine", line),
+        CatalogFault::Repeated(line, earlier) => {
+            two_numbered(alloc, " CatalogRepeated", line, earlier)
+        }
+        CatalogFault::TooMany => bare(alloc, " CatalogTooMany"),
+        CatalogFault::Memory => bare(alloc, " Memory"),
+    }
+}
+
+/// The word of a refusal of a URI.
+fn uri_word(cause: UriRefusal) -> &'static str
+    ensures { result.now ≡ uri_words cause }
+{
+    match cause {
+        UriRefusal::UnknownPointer => " UnknownPointer",
+        UriRefusal::NotUri => " NotUri",
+        UriRefusal::HasFragment => " HasFragment",
+        UriRefusal::HasQuery => " HasQuery",
+        UriRefusal::Foreign => " Foreign",
+        UriRefusal::BadSegment => " BadSegment",
+        UriRefusal::Memory => " Memory",
+    }
+}
+
+/// The number of a step, and why it is refused.
+fn step_words(alloc: Global, step: u32, word: &str) -> Result<String, NoMemory>
+    ensures { IfOk result (λ words. string_bytes words ≡ step_words step word.now) }
+{
+    Ok(format!(in alloc; " step {}{}", step, word)?)
+}
+
+/// The number of a step and that of an expression within it, and why it is refused.
+fn part_words(alloc: Global, step: u32, part: u32, words: &str) -> Result<String, NoMemory>
+    ensures { IfOk result (λ all. string_bytes all ≡ part_words step part words.now) }
+{
+    Ok(format!(in alloc; " step {} part {}{}", step, part, words)?)
+}
+
+/// The word of an expression that can't be parsed.
+fn syntax_word(cause: SyntaxRefusal) -> &'static str
+    ensures { result.now ≡ syntax_words cause }
+{
+    match cause {
+        SyntaxRefusal::TooLong => " TooLong",
+        SyntaxRefusal::NotXPath => " NotXPath",
+        SyntaxRefusal::TooDeep => " TooDeep",
+        SyntaxRefusal::Fraction => " Fraction",
+        SyntaxRefusal::NumberRange => " NumberRange",
+        SyntaxRefusal::Div => " Div",
+        SyntaxRefusal::Variable => " Variable",
+        SyntaxRefusal::UnknownFunction => " UnknownFunction",
+        SyntaxRefusal::Arity => " Arity",
+        SyntaxRefusal::UnboundPrefix => " UnboundPrefix",
+        SyntaxRefusal::Memory => " Memory",
+    }
+}
+
+/// The words of an expression that can't be evaluated.
+fn eval_words(alloc: Global, cause: EvalRefusal) -> Result<String, NoMemory>
+    ensures { IfOk result (λ words. string_bytes words ≡ eval_words cause) }
+{
+    match cause {
+        EvalRefusal::Fraction => bare(alloc, " Fraction"),
+        EvalRefusal::NumberRange => bare(alloc, " NumberRange"),
+        EvalRefusal::NotNodes => bare(alloc, " NotNodes"),
+        EvalRefusal::AmbiguousId(first, second) => {
+            two_numbered(alloc, " AmbiguousId", first as u64, second as u64)
+        }
+        EvalRefusal::HereElsewhere => bare(alloc, " HereElsewhere"),
+        EvalRefusal::Memory => bare(alloc, " Memory"),
+    }
+}
+
+/// The words of an expression of a step that can't be evaluated.
+fn evaluation_words(
+    alloc: Global,
+    step: u32,
+    part: u32,
+    cause: EvalRefusal,
+) -> Result<String, NoMemory>
+    ensures { IfOk result (λ words. string_bytes words ≡ part_words step part (eval_words cause)) }
+{
+    let words = eval_words(alloc, cause)?;
+    part_words(alloc, step, part, words.as_str())
+}
+
 /// The words of a refusal of a Reference.
 fn reference_words(alloc: Global, cause: RefRefusal) -> Result<String, NoMemory>
     ensures { IfOk result (λ words. string_bytes words ≡ reference_words cause) }
 {
     match cause {
+        RefRefusal::Uri(cause) => bare(alloc, uri_word(cause)),
         RefRefusal::NoSuchId => bare(alloc, " NoSuchId"),
         RefRefusal::AmbiguousId(first, second) => {
             two_numbered(alloc, " AmbiguousId", first as u64, second as u64)
         }
-        RefRefusal::OctetsTooLong(step) => {
-            Ok(format!(in alloc; " step {} OctetsTooLong", step)?)
+        RefRefusal::Absent => bare(alloc, " Absent"),
+        RefRefusal::TooLong => bare(alloc, " TooLong"),
+        RefRefusal::Read { step, cause } => step_words(alloc, step, read_word(cause)),
+        RefRefusal::Syntax { step, part, cause } => {
+            part_words(alloc, step, part, syntax_word(cause))
         }
+        RefRefusal::Eval { step, part, cause } => evaluation_words(alloc, step, part, cause),
+        RefRefusal::NotBase64(step) => step_words(alloc, step, " NotBase64"),
+        RefRefusal::EnvelopedElsewhere(step) => step_words(alloc, step, " EnvelopedElsewhere"),
+        RefRefusal::OctetsTooLong(step) => step_words(alloc, step, " OctetsTooLong"),
+        RefRefusal::FetchFailed => bare(alloc, " FetchFailed"),
+        RefRefusal::SinkRefused => bare(alloc, " SinkRefused"),
+        RefRefusal::Memory => bare(alloc, " Memory"),
     }
 }
 
@@ -113,11 +218,11 @@ fn validate_words(alloc: Global, cause: ValidateRefusal) -> Result<String, NoMem
     match cause {
         ValidateRefusal::NoSignature => bare(alloc, " NoSignature"),
         ValidateRefusal::Fields(cause) => field_words(alloc, cause),
-        ValidateRefusal::NotBuilt => bare(alloc, " NotBuilt"),
         ValidateRefusal::NoKey => bare(alloc, " NoKey"),
         ValidateRefusal::UnknownKey => bare(alloc, " UnknownKey"),
         ValidateRefusal::OctetsTooLong => bare(alloc, " OctetsTooLong"),
         ValidateRefusal::Reference(i, cause) => numbered_words(alloc, i, cause),
+        ValidateRefusal::FetchFailed => bare(alloc, " FetchFailed"),
         ValidateRefusal::Memory => bare(alloc, " Memory"),
     }
 }
@@ -127,12 +232,23 @@ fn refusal_words(alloc: Global, refusal: Refusal) -> Result<String, NoMemory>
     ensures { IfOk result (λ words. string_bytes words ≡ refusal_words refusal) }
 {
     match refusal {
+        Refusal::NotBuilt => bare(alloc, " NotBuilt"),
         Refusal::NoDocument => bare(alloc, " NoDocument"),
         Refusal::NoKeys => bare(alloc, " NoKeys"),
         Refusal::KeysTooLarge => bare(alloc, " KeysTooLarge"),
         Refusal::Keys(fault) => key_words(alloc, fault),
+        Refusal::NoCatalog => bare(alloc, " NoCatalog"),
+        Refusal::CatalogTooLarge => bare(alloc, " CatalogTooLarge"),
+        Refusal::Catalog(fault) => catalog_words(alloc, fault),
         Refusal::Read(cause) => bare(alloc, read_word(cause)),
         Refusal::Validate(cause) => validate_words(alloc, cause),
+        Refusal::Syntax(cause) => bare(alloc, syntax_word(cause)),
+        Refusal::Eval(cause) => eval_words(alloc, cause),
+        Refusal::NoSuchId => bare(alloc, " NoSuchId"),
+        Refusal::AmbiguousId(first, second) => {
+            two_numbered(alloc, " AmbiguousId", first as u64, second as u64)
+        }
+        Refusal::OctetsTooLong => bare(alloc, " OctetsTooLong"),
     }
 }
 

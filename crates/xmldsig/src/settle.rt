@@ -1,32 +1,63 @@
 //! From the words to an ending: everything but what is printed.
-ghost use Rattle.std.specs.Prelude.{◌≡◌, Ok, Err, Some, map, string_bytes};
-ghost use Rattle.std.specs.Option.{ForSome};
-ghost use Rattle.xmldsig.specs.Outcome.{run_outcome, names_asked};
-ghost use Rattle.xmldsig.specs.Job.{job_of};
-ghost use Rattle.xmldsig.specs.Ending.{Delivered, Settles, AsksBy, FolderCounts, EndsWords, names_for};
+ghost use Rattle.std.specs.Prelude.{◌≡◌, Some, false, length, map, string_bytes};
+ghost use Rattle.core_validate.specs.Answers.{HasFewViews};
+ghost use Rattle.job_words.specs.Job.{job_of};
+ghost use Rattle.job_words.specs.declared.job.Job.TheVariants as named;
+ghost use Rattle.signed_views.specs.Handing.{CountsStand};
+ghost use Rattle.xmldsig.specs.Code.Ending.{KeepersHave, RefusalEnds, ReportEnds, Settled, ViewCause};
+ghost use Rattle.xmldsig.specs.Outcome as spec;
+ghost use Rattle.xmldsig.specs.Outside.{asking};
 
 use crate::ending::{Ending, Refusal};
-use crate::find::{Stop, find};
-use crate::job::{Job, WordsFault, job_of};
+use crate::form::{Form, find_form};
 use crate::refusals::line_of;
 use crate::report::text_of;
+use crate::stop::Stop;
+use crate::validation::find_report;
 use core_validate::Report;
-use sig_outside::Folder;
+use job_words::{Asked, Job, WordsFault, job_of};
+use sig_base::Text;
+use sig_outside::{Folder, ViewKeeper};
+use signed_views::{Handed, hand_on, view_names};
 use std::alloc::Global;
 
-/// Makes the text of a report. This is the last memory that a run takes.
-fn deliver_report(alloc: Global, report: Report) -> Ending
-    ensures { Delivered (Ok report) result }
+/// Makes the text of a report and the names of its views, and then hands the views on. The text and the names are the last
+/// memory that a run takes.
+fn deliver_report<K: ViewKeeper>(
+    alloc: Global,
+    report: Report,
+    views: &Option<Text>,
+    keepers: &mut Vec<K>,
+) -> Ending
+    requires { HasFewViews report }
+    ensures ends { ReportEnds views.now report result }
+    ensures keepers { KeepersHave (spec.pairs_for views.now report) result K.pairs keepers.old.items keepers.new.items }
+    ensures number { length keepers.new.items ≡ length keepers.old.items }
+    ensures counts { CountsStand K.faults keepers.old.items keepers.new.items }
+    ensures cause { ViewCause K.faults result keepers.old.items keepers.new.items }
 {
-    match text_of(alloc, &report) {
-        Ok(text) => Ending::Reported { report, text },
-        Err(_) => Ending::Memory,
+    let Ok(text) = text_of(alloc, &report) else {
+        return Ending::Memory;
+    };
+    let Some(dir) = views else {
+        return Ending::Reported { report, text };
+    };
+    let Report::Valid(kept) = &report else {
+        return Ending::Reported { report, text };
+    };
+    let Ok(names) = view_names(alloc, dir.as_str(), kept.octets.len() as u32) else {
+        return Ending::Memory;
+    };
+    match hand_on(keepers, &names, kept) {
+        Handed::Done => Ending::Reported { report, text },
+        Handed::Failed { view, keeper } => Ending::ViewFault { view, keeper },
+        Handed::Memory { .. } => Ending::Memory,
     }
 }
 
 /// Makes the line of a refusal. This is the last memory that a run takes.
 fn deliver_refusal(alloc: Global, refusal: Refusal) -> Ending
-    ensures { Delivered (Err refusal) result }
+    ensures { RefusalEnds refusal result }
 {
     match line_of(alloc, refusal) {
         Ok(line) => Ending::Refused { refusal, line },
@@ -34,30 +65,104 @@ fn deliver_refusal(alloc: Global, refusal: Refusal) -> Ending
     }
 }
 
-/// What a job comes to.
-fn settle_job<F: Folder>(alloc: Global, job: &Job, folder: &mut F) -> Ending
-    ensures words { EndsWords (Some job.now) result }
-    ensures outcome { ForSome (F.held folder.old) (λ files. Settles (run_outcome job.now files) result) }
-    ensures asked { ForSome (F.held folder.old) (λ files. AsksBy result (names_asked job.now files) (F.asked folder.old) (F.asked folder.new)) }
-    ensures folder { FolderCounts result (F.faults folder.old) (F.faults folder.new) }
+/// What a validation comes to.
+fn settle_validation<F: Folder, K: ViewKeeper>(
+    alloc: Global,
+    asked: Asked,
+    views: Option<Text>,
+    folder: &mut F,
+    keepers: &mut Vec<K>,
+) -> Ending
+    ensures { Settled K.pairs K.faults (Some (named.Validate asked views false)) (F.held folder.old) result
+        (asking F.asked F.faults folder.old) (asking F.asked F.faults folder.new) keepers.old.items keepers.new.items }
 {
-    match find(alloc, job, folder) {
-        Ok(report) => deliver_report(alloc, report),
+    match find_report(alloc, asked, views.is_some(), folder) {
+        Ok(report) => deliver_report(alloc, report, &views, keepers),
         Err(Stop::Refused(refusal)) => deliver_refusal(alloc, refusal),
         Err(Stop::ReadFault) => Ending::ReadFault,
         Err(Stop::Memory) => Ending::Memory,
     }
 }
 
+/// What a canonical form comes to.
+fn settle_form<F: Folder, K: ViewKeeper>(
+    alloc: Global,
+    doc: Text,
+    form: Form,
+    folder: &mut F,
+    keepers: &mut Vec<K>,
+) -> Ending
+    ensures { Settled K.pairs K.faults (Some (named.Canon doc form.method form.id form.xpath form.prefixes)) (F.held folder.old) result
+        (asking F.asked F.faults folder.old) (asking F.asked F.faults folder.new) keepers.old.items keepers.new.items }
+{
+    let _ = keepers;
+    match find_form(alloc, &doc, &form, folder) {
+        Ok(octets) => Ending::Written { octets },
+        Err(Stop::Refused(refusal)) => deliver_refusal(alloc, refusal),
+        Err(Stop::ReadFault) => Ending::ReadFault,
+        Err(Stop::Memory) => Ending::Memory,
+    }
+}
+
+/// What a job comes to.
+fn settle_job<F: Folder, K: ViewKeeper>(
+    alloc: Global,
+    job: Job,
+    folder: &mut F,
+    keepers: &mut Vec<K>,
+) -> Ending
+    ensures { Settled K.pairs K.faults (Some job) (F.held folder.old) result (asking F.asked F.faults folder.old)
+        (asking F.asked F.faults folder.new) keepers.old.items keepers.new.items }
+{
+    match job {
+        Job::Validate {
+            asked,
+            views,
+            manifests,
+        } => {
+            if manifests {
+                deliver_refusal(alloc, Refusal::NotBuilt)
+            } else {
+                settle_validation(alloc, asked, views, folder, keepers)
+            }
+        }
+        Job::Canon {
+            doc,
+            method,
+            id,
+            xpath,
+            prefixes,
+        } => {
+            let form = Form {
+                method,
+                id,
+                xpath,
+                prefixes,
+            };
+            settle_form(alloc, doc, form, folder, keepers)
+        }
+        Job::Sign { asked: _asked } => deliver_refusal(alloc, Refusal::NotBuilt),
+        Job::Template {
+            doc: _doc,
+            key: _key,
+            ..
+        } => deliver_refusal(alloc, Refusal::NotBuilt),
+        Job::SelfTest { .. } => deliver_refusal(alloc, Refusal::NotBuilt),
+    }
+}
+
 /// What the words come to.
-pub(crate) fn settle<F: Folder>(alloc: Global, words: &[String], folder: &mut F) -> Ending
-    ensures words { EndsWords (job_of (map string_bytes words.now)) result }
-    ensures outcome { ForSome (job_of (map string_bytes words.now)) (λ job. ForSome (F.held folder.old) (λ files. Settles (run_outcome job files) result)) }
-    ensures asked { ForSome (F.held folder.old) (λ files. AsksBy result (names_for (job_of (map string_bytes words.now)) files) (F.asked folder.old) (F.asked folder.new)) }
-    ensures folder { FolderCounts result (F.faults folder.old) (F.faults folder.new) }
+pub(crate) fn settle<F: Folder, K: ViewKeeper>(
+    alloc: Global,
+    words: &[String],
+    folder: &mut F,
+    keepers: &mut Vec<K>,
+) -> Ending
+    ensures { Settled K.pairs K.faults (job_of (map string_bytes words.now)) (F.held folder.old) result
+        (asking F.asked F.faults folder.old) (asking F.asked F.faults folder.new) keepers.old.items keepers.new.items }
 {
     match job_of(alloc, words) {
-        Ok(job) => settle_job(alloc, &job, folder),
+        Ok(job) => settle_job(alloc, job, folder, keepers),
         Err(WordsFault::Usage) => Ending::Usage,
         Err(WordsFault::Memory) => Ending::Memory,
     }

@@ -9,12 +9,12 @@ use std::process::Abort;
 use std::test::Fail;
 
 /// The enveloping example, of which each test may change a part.
-const DOCUMENT: &str =
+pub(crate) const DOCUMENT: &str =
     "<Signature xmlns=\"http://www.w3.org/2000/09/xmldsig#\"><SignedInfo><CanonicalizationMethod Algorithm=\"http://www.w3.org/TR/2001/REC-xml-c14n-20010315\"></CanonicalizationMethod><SignatureMethod Algorithm=\"http://www.w3.org/2001/04/xmldsig-more#hmac-sha256\"></SignatureMethod><Reference URI=\"#obj\"><DigestMethod Algorithm=\"http://www.w3.org/2001/04/xmlenc#sha256\"></DigestMethod><DigestValue>KPGpYHC4zFc1Lx40u3xQYEP5QdfHx+102bWKBRRWYzE=</DigestValue></Reference></SignedInfo><SignatureValue>00GnRGdIVNGKRGKgqCbmGfLNkHv09Rp5nkK/V9znGkM=</SignatureValue><Object Id=\"obj\">Hello</Object></Signature>";
 
 pub(crate) const KEYS: &str = "4a656665 k1\n";
 
-const USAGE: &str = "usage: xmldsig validate|sign|canon|template|selftest\n";
+pub(crate) const USAGE: &str = "usage: xmldsig validate|sign|canon|template|selftest\n";
 
 /// What a run is given: the files that the folder holds, and which call fails.
 #[derive(Clone, Copy)]

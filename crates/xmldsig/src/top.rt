@@ -1,23 +1,23 @@
 //! The top call.
-ghost use Rattle.std.specs.Prelude.{◌≡◌, ◌≢◌, map, string_bytes};
-ghost use Rattle.std.specs.Option.{ForSome};
-ghost use Rattle.xmldsig.specs.Outcome.{run_outcome};
-ghost use Rattle.xmldsig.specs.Job.{job_of};
-ghost use Rattle.xmldsig.specs.Ending.{names_for};
-ghost use Rattle.xmldsig.specs.Texts.{out_text, err_text};
-ghost use Rattle.xmldsig.specs.Headline.{Agrees, UsageBy, FolderBy, SinksBy, AskedBy, OutBy, ErrBy, NoFault, outcome_status, text_for, line_for};
+ghost use Rattle.std.specs.Prelude.{[], map, string_bytes};
+ghost use Rattle.job_words.specs.Job.{job_of};
+ghost use Rattle.xmldsig.specs.Ending.{fault_ending};
+ghost use Rattle.xmldsig.specs.Headline.{Headline};
+ghost use Rattle.xmldsig.specs.Outside.{asking, outside, stream};
+ghost use Rattle.xmldsig.specs.Printed.{Said, err_of, status_of};
 
-use crate::ending::Status;
+use crate::ending::{Ending, Status};
 use crate::print::print;
 use crate::settle::settle;
+use job_words::WordsFault;
 use sig_outside::{Folder, Sink, ViewKeeper};
 use std::alloc::Global;
 
 /// Does what the words say, prints what it came to, and tells how it ended.
 ///
 /// The folder's files and the words alone decide. A validation is `Valid` exactly where the HMAC over the canonical
-/// SignedInfo is the signature value and the digest of each reference's view is its DigestValue (XML Signature 1.1 §3.2).
-/// No word asks for views yet, so no keeper is touched.
+/// SignedInfo is the signature value and the digest of each Reference's view is its DigestValue (XML Signature 1.1 §3.2).
+/// Then each keeper receives the views, if the words ask for them, and only then anything is printed.
 pub fn run<F: Folder, K: ViewKeeper, O: Sink, E: Sink>(
     alloc: Global,
     words: &[String],
@@ -26,17 +26,21 @@ pub fn run<F: Folder, K: ViewKeeper, O: Sink, E: Sink>(
     out: &mut O,
     err: &mut E,
 ) -> Status
-    ensures verdict { ForSome (job_of (map string_bytes words.now)) (λ job. ForSome (F.held folder.old) (λ files. Agrees (run_outcome job files) result)) }
-    ensures exactly { ForSome (job_of (map string_bytes words.now)) (λ job. ForSome (F.held folder.old) (λ files. NoFault (F.faults folder.old) (F.faults folder.new) (O.faults out.old) (O.faults out.new) (E.faults err.old) (E.faults err.new) → result ≢ Status.Memory → result ≡ outcome_status (run_outcome job files))) }
-    ensures keepers { keepers.new.items ≡ keepers.old.items }
-    ensures printed { ForSome (F.held folder.old) (λ files. OutBy (text_for (job_of (map string_bytes words.now)) files) result (O.written out.old) (O.written out.new)) }
-    ensures told { ForSome (F.held folder.old) (λ files. ErrBy (line_for (job_of (map string_bytes words.now)) files) result (E.written err.old) (E.written err.new) (E.faults err.old) (E.faults err.new)) }
-    ensures asked { ForSome (F.held folder.old) (λ files. AskedBy result (names_for (job_of (map string_bytes words.now)) files) (F.asked folder.old) (F.asked folder.new)) }
-    ensures usage { UsageBy (job_of (map string_bytes words.now)) result }
-    ensures folder { FolderBy result (F.faults folder.old) (F.faults folder.new) }
-    ensures sinks { SinksBy result (O.faults out.old) (O.faults out.new) (E.faults err.old) (E.faults err.new) }
+    ensures { Headline K.pairs K.faults (job_of (map string_bytes words.now)) (F.held folder.old) result
+        (outside (asking F.asked F.faults folder.old) keepers.old.items (stream O.written O.faults out.old) (stream E.written E.faults err.old))
+        (outside (asking F.asked F.faults folder.new) keepers.new.items (stream O.written O.faults out.new) (stream E.written E.faults err.new)) }
 {
-    let _ = keepers;
-    let ending = settle(alloc, words, folder);
+    let ending = settle(alloc, words, folder, keepers);
     print(&ending, out, err)
+}
+
+/// Ends a run whose words could not be had: they aren't UTF-8, or memory for them was wanting.
+pub fn end_without_words<O: Sink, E: Sink>(fault: WordsFault, out: &mut O, err: &mut E) -> Status
+    ensures { Said [] (err_of (fault_ending fault)) (status_of (fault_ending fault)) result
+        (stream O.written O.faults out.old) (stream O.written O.faults out.new) (stream E.written E.faults err.old) (stream E.written E.faults err.new) }
+{
+    match fault {
+        WordsFault::Usage => print(&Ending::Usage, out, err),
+        WordsFault::Memory => print(&Ending::Memory, out, err),
+    }
 }

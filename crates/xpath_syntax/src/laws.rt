@@ -29,7 +29,8 @@ pub fn lawful_expression()
 
 /// Where no token is offensive in itself and the expression that the terminals spell is lawful, no token offends.
 pub fn lawful_unrefused()
-    ensures { (ts : List Token) (x : Expr) → NoneByItself ts → Spells (Level 0 x) (terminals ts) → Lawful (One x) → first_offence ts ≡ None }
+    ensures { (ts : List Token) (x : Expr) → NoneByItself ts → Spells (Level 0 x) (terminals ts) → Lawful (One x)
+        → first_offence ts ≡ None }
 {}
 
 /// What a lawful expression holds is lawful.

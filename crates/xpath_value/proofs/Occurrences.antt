@@ -1,6 +1,6 @@
 -- The first occurrence of a mark, by characters and by octets.
-use Rattle.std.proofs.Common.{◌≡◌, refl, ap, sym, subst, ◌∙◌, ◌++◌, ℕ, suc, ◌+◌, ◌<◌, ◌≤◌, List, [], ◌∷◌, length, take, drop, true, false, Some, None, arith, inl, inr}
-use Rattle.std.specs.Prelude.{◌==◌, option_map, encode_utf8_all}
+use Rattle.std.proofs.Common.{◌≡◌, refl, ap, sym, subst, ◌∙◌, ◌++◌, ℕ, suc, ◌+◌, ◌<◌, ◌≤◌, List, [], ◌∷◌, length, take, drop, Bool, true, false, Some, None, arith, inl, inr}
+use Rattle.std.specs.Prelude.{◌==◌, option_map, encode_utf8_all, is_some}
 use Rattle.std.specs.Str.{chars, IsUtf8}
 use Rattle.std.specs.Str.Pattern.{FindsText, LacksTextAt}
 use Rattle.std.proofs.lemmas.Bool.{and_parts, cases_lt, eq-eqb, eqb-true}
@@ -22,6 +22,23 @@ front_begins (m ∷ ms) [] e = absurd (cc)
 front_begins (m ∷ ms) (c ∷ cs) e =
     let p : ((m == c) ≡ true) × (begins_with ms cs ≡ true) = and_parts (m == c) (begins_with ms cs) e in
     ap (λ (t : List ℕ). c ∷ t) (front_begins ms cs p.1) ∙ ap (λ (d : ℕ). d ∷ ms ++ drop (length ms) cs) (sym (eqb-true m c p.0))
+
+octets_of_front : (text mark ys : List ℕ) → IsUtf8 text → IsUtf8 mark → chars text ≡ chars mark ++ ys → text ≡ mark ++ encode_utf8_all ys
+octets_of_front text mark ys u v e =
+    sym (encodes-chars text u) ∙ ap encode_utf8_all e ∙ encodes-append (chars mark) ys ∙ ap (λ (t : List ℕ). t ++ encode_utf8_all ys) (encodes-chars mark v)
+
+-- octets that begin with a mark are characters that do
+pub begins : (text mark : List ℕ) → IsUtf8 text → IsUtf8 mark → (r : Bool) → (r ≡ true → text ≡ mark ++ drop (length mark) text)
+    → ((rest : List ℕ) → text ≡ mark ++ rest → r ≡ true) → r ≡ begins_with (chars mark) (chars text)
+begins text mark u v true is only =
+    let split : chars text ≡ chars mark ++ chars (drop (length mark) text) = ap chars (is refl) ∙ chars-append mark (drop (length mark) text) v in
+    sym (ap (begins_with (chars mark)) split ∙ begins_at_front (chars mark) (chars (drop (length mark) text)))
+begins text mark u v false is only = elim (begins_with (chars mark) (chars text)) as (λ b. begins_with (chars mark) (chars text) ≡ b → false ≡ b) [
+  | true ↦ λ e.
+      let rest = drop (length (chars mark)) (chars text) in
+      only (encode_utf8_all rest) (octets_of_front text mark rest u v (front_begins (chars mark) (chars text) e))
+  | false ↦ λ e. refl
+] refl
 
 -- the mark stands nowhere in the text
 abbrev pub Lacks : List ℕ → List ℕ → Type 0
@@ -142,3 +159,12 @@ stands_first text mark before after i j found e f g = record {
       ∙ ap (λ (t : List ℕ). t ++ (mark ++ drop j text)) (sym e) ∙ ap (λ (t : List ℕ). before ++ (mark ++ t)) (sym f);
   none = λ k h. found.0 k (omega arith);
 }
+
+-- whether the mark occurs
+pub occurs : (text mark before after : List ℕ) → IsUtf8 text → IsUtf8 mark → IsUtf8 before → StandsFirst text mark before after
+    → true ≡ is_some (first_occurrence (chars mark) (chars text))
+occurs text mark before after u v w h = sym (ap is_some (place_of text mark before after u v w h))
+
+pub occurs_not : (text mark : List ℕ) → IsUtf8 text → IsUtf8 mark → ((i : ℕ) → i ≤ length text → LacksTextAt mark text i)
+    → false ≡ is_some (first_occurrence (chars mark) (chars text))
+occurs_not text mark u v never = sym (ap is_some (occurs_nowhere (chars mark) (chars text) (lacks_chars text mark u v never)))

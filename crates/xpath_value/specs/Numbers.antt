@@ -1,6 +1,6 @@
 -- Numbers of an expression (XPath 1.0 §3.5), restricted to whole numbers of at most 53 bits and NaN, and the two conversions
 -- between numbers and texts (XPath 1.0 §4.2 and §4.4).
-use Rattle.std.specs.Prelude.{◌≡◌, ℕ, suc, ℤ, pos, negsuc, neg_ℤ, nat_abs, Bool, true, false, ◌&&◌, ◌==◌, not, nat_le, ◌≤◌, ◌<◌, List, [], ◌∷◌, Result, Ok, Err, if◌then◌else◌, codes, decimal}
+use Rattle.std.specs.Prelude.{ℕ, suc, ℤ, pos, negsuc, neg_ℤ, nat_abs, Bool, true, false, ◌&&◌, ◌==◌, not, nat_le, ◌≤◌, List, [], ◌∷◌, Result, Ok, Err, if◌then◌else◌, codes, decimal}
 use Rattle.std.specs.List.{list_all, before_first, after_first}
 use Rattle.std.specs.Str.Parse.{digits_value}
 use Rattle.xpath_value.specs.Characters.{is_digit, is_empty, is_point, is_zero, stripped}
@@ -64,11 +64,6 @@ abbrev pub text_of : Number → List ℕ
 text_of Nan = codes "NaN"
 text_of (Whole (pos n)) = decimal n
 text_of (Whole (negsuc n)) = 45 ∷ decimal (suc n)
-
--- the value of digits, which is at most the greatest number, or the refusal where it is above that
-abbrev pub IsValue : List ℕ → Result ℕ NumberFault → Type 0
-IsValue digits (Ok value) = (value ≤ greatest) × (value ≡ digits_value 10 digits)
-IsValue digits (Err fault) = (greatest < digits_value 10 digits) × (fault ≡ NumberRange)
 
 -- NaN, or an integer whose size is at most the greatest number
 abbrev pub IsWithin : Number → Type 0

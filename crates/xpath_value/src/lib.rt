@@ -11,5 +11,6 @@ mod text;
 
 pub use number::{Number, NumberFault, number_of_text, text_of_number};
 pub use text::{
-    concat, normalize_space, string_length, substring, substring_after, substring_before, translate,
+    append, concat, contains, normalize_space, starts_with, string_length, substring,
+    substring_after, substring_before, translate,
 };

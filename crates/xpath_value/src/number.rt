@@ -3,7 +3,8 @@ ghost use Rattle.std.specs.Prelude.{◌≡◌, ◌≤◌, IfOk, true};
 ghost use Rattle.std.specs.List.{list_all};
 ghost use Rattle.xpath_value.specs.Characters.{is_digit};
 ghost use Rattle.std.specs.Str.{chars};
-ghost use Rattle.xpath_value.specs.Numbers.{IsValue, IsWithin, are_parts, fraction_part, greatest, number_behind_sign, number_of, signed, text_of, whole_part};
+ghost use Rattle.xpath_value.specs.Numbers.{IsWithin, are_parts, fraction_part, greatest, number_behind_sign, number_of, signed, text_of, whole_part};
+ghost use Rattle.xpath_value.specs.Code.Numbers.{IsValue};
 
 use crate::scan::{are_digits, are_zeros, is_empty, strip_space};
 use sig_base::{NoMemory, Text, split_first};

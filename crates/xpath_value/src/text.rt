@@ -1,17 +1,17 @@
 //! The text functions of XPath 1.0 (§4.2).
 //!
 //! A call that makes a text may answer `NoMemory`, and only for want of memory.
-ghost use Rattle.std.specs.Prelude.{◌≡◌, ◌++◌, length, IfOk, OnOk};
+ghost use Rattle.std.specs.Prelude.{◌≡◌, ◌++◌, is_some, length, IfOk, OnOk};
 ghost use Rattle.std.specs.Str.{chars};
-ghost use Rattle.xpath_value.specs.Texts.{is_kept, normalized, replacement, substring_after_of, substring_before_of, substring_of, translated};
+ghost use Rattle.xpath_value.specs.Texts.{begins_with, first_occurrence, is_kept, normalized, replacement, substring_after_of, substring_before_of, substring_of, translated};
 
 use crate::number::Number;
 use crate::scan::{is_space, strip_space};
 use sig_base::{NoMemory, Text};
 use std::alloc::Global;
 
-/// Appends a text.
-fn append(out: &mut Text, text: &str) -> Result<(), NoMemory>
+/// Appends a text. After `NoMemory` some of it may have been appended.
+pub fn append(out: &mut Text, text: &str) -> Result<(), NoMemory>
     ensures { OnOk result (out.new ≡ out.old ++ chars text.now) }
 {
     for c in text.chars() {
@@ -76,6 +76,23 @@ pub fn substring(
         }
     }
     Ok(kept)
+}
+
+/// Whether the text begins with the mark (XPath 1.0 §4.2, `starts-with`). It takes no memory.
+pub fn starts_with(text: &str, mark: &str) -> bool
+    ensures { result ≡ begins_with (chars mark.now) (chars text.now) }
+{
+    text.starts_with(mark)
+}
+
+/// Whether the mark occurs in the text (XPath 1.0 §4.2, `contains`). It takes no memory.
+pub fn contains(text: &str, mark: &str) -> bool
+    ensures { result ≡ is_some (first_occurrence (chars mark.now) (chars text.now)) }
+{
+    match text.split_once(mark) {
+        Some((_before, _after)) => true,
+        None => false,
+    }
 }
 
 /// The text before the first occurrence of the mark, empty where there is none (XPath 1.0 §4.2, `substring-before`).

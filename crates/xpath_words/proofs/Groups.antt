@@ -5,7 +5,8 @@ use Rattle.sig_base.proofs.OptionLemmas.{some_is}
 use Rattle.xpath_words.specs.Reading.{before_all}
 use Rattle.xpath_words.specs.Prefixes.{Pair}
 use Rattle.xpath_words.specs.Terminals.{behind_first, group_at, groups_behind}
-use Rattle.xpath_words.specs.Given.{Fails, with_front}
+use Rattle.xpath_words.specs.Given.{Fails}
+use Rattle.xpath_words.specs.Code.Given.{with_front}
 use Rattle.xpath_words.specs.declared.meaning.Meant.{Meant}
 use Rattle.xpath_words.specs.declared.terminal.Token.{Token}
 use Rattle.xpath_words.specs.declared.fault.TokensFault.{TokensFault}

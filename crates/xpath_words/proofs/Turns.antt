@@ -4,7 +4,8 @@ use Rattle.xpath_words.specs.Characters.{is_space, is_empty, begins, behind_firs
 use Rattle.xpath_words.specs.Reading.{word_of, before_all, words_behind}
 use Rattle.std.specs.Prelude.{Result, Ok, Err, Vec}
 use Rattle.std.specs.Result.{IsErrAnd}
-use Rattle.xpath_words.specs.Given.{Fails, Collects, with_front}
+use Rattle.xpath_words.specs.Given.{Fails, Collects}
+use Rattle.xpath_words.specs.Code.Given.{with_front}
 use Rattle.xpath_words.specs.declared.word.Word.{Word}
 use Rattle.xpath_words.specs.declared.fault.TokensFault.{TokensFault}
 use Rattle.xpath_words.specs.declared.fault.TokensFault.TheVariants.{NotXPath, Memory}

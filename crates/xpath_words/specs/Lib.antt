@@ -9,3 +9,4 @@ pub mod Prefixes
 pub mod Terminals
 pub mod Tokens
 pub mod Given
+pub mod Code

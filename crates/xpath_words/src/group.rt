@@ -6,7 +6,8 @@ ghost use Rattle.xpath_words.specs.Terminals.{alone, any_in_token, axis_at, begi
 ghost use Rattle.xpath_words.specs.Terminals.{begins_open, behind_first, call_token, called, closed};
 ghost use Rattle.xpath_words.specs.Terminals.{group_at, grouped, instruction_at, lawful, name_at, name_token};
 ghost use Rattle.xpath_words.specs.Terminals.{number_token, offending, operator_token, sign_at, type_at, variable};
-ghost use Rattle.xpath_words.specs.Given.{Gives, Collects};
+ghost use Rattle.xpath_words.specs.Given.{Collects};
+ghost use Rattle.xpath_words.specs.Code.Given.{Gives};
 
 use crate::axis::AxisName;
 use crate::fault::TokensFault;

@@ -2,7 +2,8 @@
 ghost use Rattle.std.specs.Prelude.{◌≡◌, false};
 ghost use Rattle.xpath_words.specs.Characters.{is_empty};
 ghost use Rattle.xpath_words.specs.Meaning.{ends_operand, meaning_of, meanings, operator_named, operator_of};
-ghost use Rattle.xpath_words.specs.Given.{Gives, Collects};
+ghost use Rattle.xpath_words.specs.Given.{Collects};
+ghost use Rattle.xpath_words.specs.Code.Given.{Gives};
 
 use crate::fault::TokensFault;
 use crate::word::{Sign, Word};

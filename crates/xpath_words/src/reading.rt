@@ -4,7 +4,8 @@ ghost use Rattle.std.specs.Str.{chars};
 ghost use Rattle.xpath_words.specs.Classes.{test_of};
 ghost use Rattle.xpath_words.specs.Reading.{follows, fraction_of, literal_of, long_before, long_sign, name_of};
 ghost use Rattle.xpath_words.specs.Reading.{number_of, short_sign, sign_of, word_of, words_of};
-ghost use Rattle.xpath_words.specs.Given.{Takes, Collects};
+ghost use Rattle.xpath_words.specs.Given.{Collects};
+ghost use Rattle.xpath_words.specs.Code.Given.{Takes};
 
 use crate::class::Class;
 use crate::cursor::{Cursor, run, take_run};

@@ -1,5 +1,5 @@
 use Rattle.std.proofs.Common.{◌≡◌, length}
-use Rattle.dsig_fields.specs.Cursor.{first_behind}
+use Rattle.dsig_fields.specs.Code.Cursor.{first_behind}
 use Rattle.dsig_fields.specs.Fields.{key_info, key_names}
 use Rattle.dsig_fields.proofs.key_info.key_info.Given as goal
 

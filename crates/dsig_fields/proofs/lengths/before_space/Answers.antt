@@ -1,6 +1,6 @@
 use Rattle.std.proofs.Common.{◌≡◌, true, false, reverse, sym, ap, ◌∙◌}
 use Rattle.std.proofs.lemmas.List.{reverse-reverse, length-reverse}
-use Rattle.dsig_base64.specs.Loose.{is_space}
+use Rattle.sig_base.specs.Space.{is_space}
 use Rattle.dsig_fields.proofs.LengthLaws.{last_first, space_passed, other_stands, none_stands}
 use Rattle.dsig_fields.proofs.lengths.before_space.Goals as goal
 

@@ -1,5 +1,5 @@
 use Rattle.std.proofs.Common.{◌≡◌, true, false, sym, ◌∙◌}
-use Rattle.dsig_base64.specs.Loose.{is_space}
+use Rattle.sig_base.specs.Space.{is_space}
 use Rattle.dsig_fields.proofs.LengthLaws.{space_passed, other_stands, none_stands}
 use Rattle.dsig_fields.proofs.lengths.behind_space.Goals as goal
 

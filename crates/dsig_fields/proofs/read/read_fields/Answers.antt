@@ -5,4 +5,4 @@ use Rattle.dsig_fields.proofs.read.read_fields.Goals as goal
 
 pub returns-clause-fit : goal.returns-clause-fit
 unfolding fields_of
-returns-clause-fit c = fields_fit c.args.doc.now c.args.signature _ (search rules)
+returns-clause-fit c = fields_fit c.args.doc.now c.args.signature _ c.rows-count.ensures.shaped (search rules)

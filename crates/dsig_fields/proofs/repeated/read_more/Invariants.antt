@@ -1,5 +1,5 @@
 use Rattle.std.proofs.Common.{◌≡◌, ◌-◌, length}
-use Rattle.dsig_fields.specs.Cursor.{with_front}
+use Rattle.dsig_fields.specs.Code.Cursor.{with_front}
 use Rattle.dsig_fields.specs.Reading.{many}
 use Rattle.dsig_fields.proofs.repeated.read_more.Given as goal
 

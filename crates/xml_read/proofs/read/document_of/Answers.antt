@@ -1,26 +1,38 @@
-use Rattle.std.proofs.Common.{◌∙◌, ap, sym, arith, length, Ok}
+use Rattle.std.proofs.Common.{◌∙◌, ap, subst, sym, arith, length, [], Ok, Err}
+use Rattle.xml_syntax.specs.Seen.{seen_all}
+use Rattle.xml_resolve.specs.Resolve.{resolve}
+use Rattle.xml_read.specs.ReadOutcome.{Answers, resolved_outcome}
+use Rattle.xml_read.specs.declared.read.ReadRefusal.{ReadRefusal}
 use Rattle.xml_resolve.proofs.ShapedLaws.{rows_shaped}
-use Rattle.xml_read.proofs.Outcomes.{resolves, all_rows}
+use Rattle.xml_read.proofs.Outcomes.{resolves, all_rows, row_refused}
 use Rattle.xml_read.proofs.read.document_of.Goals as goal
 
-pub make-requires-clause-few : goal.make-requires-clause-few
-make-requires-clause-few c =
-    let r = resolves c.requires.tree (c.in-Ok.ensures c.requires.tree c.requires.are) in
-    let b = c.in-Ok-build_rows.ensures c.requires.tree r.resolved c.requires.are r.is in
+pub from_rows-requires-clause-few : goal.from_rows-requires-clause-few
+from_rows-requires-clause-few c =
+    let r = resolves c.requires.tree (c.in-Ok.ensures.tree c.requires.tree (ap seen_all c.deref.ensures.value ∙ c.requires.are)) in
+    let b = c.in-Ok-build_rows.ensures.tree c.requires.tree r.resolved (ap seen_all c.deref-3.ensures.value ∙ c.requires.are) r.is in
     let e = ap length b.0 in
     let few = b.1 in
     omega (arith, e, few)
 
-pub make-requires-clause-shaped : goal.make-requires-clause-shaped
-make-requires-clause-shaped c =
-    let r = resolves c.requires.tree (c.in-Ok.ensures c.requires.tree c.requires.are) in
-    let b = c.in-Ok-build_rows.ensures c.requires.tree r.resolved c.requires.are r.is in
+pub from_rows-requires-clause-shaped : goal.from_rows-requires-clause-shaped
+from_rows-requires-clause-shaped c =
+    let r = resolves c.requires.tree (c.in-Ok.ensures.tree c.requires.tree (ap seen_all c.deref.ensures.value ∙ c.requires.are)) in
+    let b = c.in-Ok-build_rows.ensures.tree c.requires.tree r.resolved (ap seen_all c.deref-3.ensures.value ∙ c.requires.are) r.is in
     rw b.0 (rows_shaped c.requires.tree r.resolved c.requires.whole r.is)
 
-pub returns-in-Ok-make : goal.returns-in-Ok-make
-returns-in-Ok-make c = λ t told.
-    let r = resolves t (c.in-Ok.ensures t told) in
-    let b = c.in-Ok-build_rows.ensures t r.resolved told r.is in
-    let d = c.depth_of.ensures t told in
+pub returns-in-Ok-build_rows : goal.returns-in-Ok-build_rows
+returns-in-Ok-build_rows c = λ t told.
+    let r = resolves t (c.in-Ok.ensures.tree t (ap seen_all c.deref.ensures.value ∙ told)) in
+    let b = c.in-Ok-build_rows.ensures.tree t r.resolved (ap seen_all c.deref-3.ensures.value ∙ told) r.is in
+    let d = c.depth_of.ensures.tree t (ap seen_all c.deref-2.ensures.value ∙ told) in
     let shallow = c.if-depth_of-gt-DEPTH_LIMIT.false in
-    all_rows t r.resolved r.is (omega (arith, d, shallow)) b.1 ∙ ap Ok (sym b.0 ∙ sym c.in-Ok-make.ensures)
+    all_rows t r.resolved r.is (omega (arith, d, shallow)) b.1 ∙ ap Ok (sym b.0 ∙ sym c.from_rows.ensures)
+
+pub returns : goal.returns
+returns c = λ t told.
+    let r = resolves t (c.in-Ok.ensures.tree t (ap seen_all c.deref.ensures.value ∙ told)) in
+    let d = c.depth_of.ensures.tree t (ap seen_all c.deref-2.ensures.value ∙ told) in
+    let shallow = c.if-depth_of-gt-DEPTH_LIMIT.false in
+    let refused = row_refused c.in-Err.fault t r.resolved r.is (omega (arith, d, shallow)) (c.in-Err.ensures.tree t r.resolved (ap seen_all c.deref-3.ensures.value ∙ told) r.is) in
+    subst (λ (e : ReadRefusal). Answers (Err e) (resolved_outcome t (resolve [] t))) (sym c.row_refusal.ensures) refused

@@ -8,3 +8,6 @@ returns-in-ReadFault g c = rw c.in-ReadFault.is c.say_err-in-ReadFault.ensures
 
 pub returns-in-Memory : goal.returns-in-Memory
 returns-in-Memory g c = rw c.in-Memory.is c.say_err-in-Memory.ensures
+
+pub returns-in-ViewFault : goal.returns-in-ViewFault
+returns-in-ViewFault g c = rw c.in-ViewFault.is c.say_view_fault.ensures

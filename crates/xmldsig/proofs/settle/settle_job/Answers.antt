@@ -1,14 +1,30 @@
-use Rattle.xmldsig.proofs.Endings.{asks_by}
+use Rattle.std.proofs.Common.{refl, true}
+use Rattle.job_words.specs.declared.job.Job.TheVariants as named
+use Rattle.xmldsig.proofs.Endings.{unbuilt_settled}
 use Rattle.xmldsig.proofs.settle.settle_job.Goals as goal
 
-pub returns-in-Ok-clause-asked : goal.returns-in-Ok-clause-asked
-returns-in-Ok-clause-asked g c = λ files e. asks_by c.deliver_report.result _ _ _ (c.in-Ok.ensures.asked files e)
+pub returns-then-manifests : goal.returns-then-manifests
+returns-then-manifests g c =
+    rw (c.in-Validate.is, c.if-manifests.true)
+    (unbuilt_settled g.K.ViewKeeper.pairs g.K.ViewKeeper.faults (named.Validate c.in-Validate.asked c.in-Validate.views true) _ c.deliver_refusal.result _ _ c.deliver_refusal.ensures (λ files. refl) (λ files. refl))
 
-pub returns-in-Err-ReadFault-clause-asked : goal.returns-in-Err-ReadFault-clause-asked
-returns-in-Err-ReadFault-clause-asked g c = λ files e. rw c.in-Err-ReadFault.field-0-is at (c.in-Err-ReadFault.ensures.asked files e)
+pub returns-else-manifests : goal.returns-else-manifests
+returns-else-manifests g c = rw (c.in-Validate.is, c.if-manifests.false) c.settle_validation.ensures
 
-pub returns-in-Err-Memory-clause-asked : goal.returns-in-Err-Memory-clause-asked
-returns-in-Err-Memory-clause-asked g c = λ files e. rw c.in-Err-Memory.field-0-is at (c.in-Err-Memory.ensures.asked files e)
+pub returns-in-Canon : goal.returns-in-Canon
+returns-in-Canon g c = rw c.in-Canon.is c.settle_form.ensures
 
-pub returns-in-Err-Refused-clause-asked : goal.returns-in-Err-Refused-clause-asked
-returns-in-Err-Refused-clause-asked g c = λ files e. asks_by c.deliver_refusal.result _ _ _ (rw c.in-Err-Refused.field-0-is at (c.in-Err-Refused.ensures.asked files e))
+pub returns-in-Sign : goal.returns-in-Sign
+returns-in-Sign g c =
+    unbuilt_settled g.K.ViewKeeper.pairs g.K.ViewKeeper.faults c.args.job _ c.deliver_refusal-in-Sign.result _ _
+    c.deliver_refusal-in-Sign.ensures (λ files. rw c.in-Sign.is refl) (λ files. rw c.in-Sign.is refl)
+
+pub returns-in-Template : goal.returns-in-Template
+returns-in-Template g c =
+    unbuilt_settled g.K.ViewKeeper.pairs g.K.ViewKeeper.faults c.args.job _ c.deliver_refusal-in-Template.result _ _
+    c.deliver_refusal-in-Template.ensures (λ files. rw c.in-Template.is refl) (λ files. rw c.in-Template.is refl)
+
+pub returns-in-SelfTest : goal.returns-in-SelfTest
+returns-in-SelfTest g c =
+    unbuilt_settled g.K.ViewKeeper.pairs g.K.ViewKeeper.faults c.args.job _ c.deliver_refusal-in-SelfTest.result _ _
+    c.deliver_refusal-in-SelfTest.ensures (λ files. rw c.in-SelfTest.is refl) (λ files. rw c.in-SelfTest.is refl)

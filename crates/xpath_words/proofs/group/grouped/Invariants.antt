@@ -1,6 +1,6 @@
 use Rattle.std.proofs.Common.{◌≡◌, length}
 use Rattle.xpath_words.specs.Terminals.{groups_behind}
-use Rattle.xpath_words.specs.Given.{with_front}
+use Rattle.xpath_words.specs.Code.Given.{with_front}
 use Rattle.xpath_words.proofs.group.grouped.Given as goal
 
 abbrev pub invariant-loop-first : goal.invariant-loop-first

@@ -1,7 +1,7 @@
 use Rattle.std.proofs.Common.{◌≡◌, false}
 use Rattle.std.specs.Vec.Iter.{into_iter_items}
 use Rattle.xpath_words.specs.Meaning.{meanings}
-use Rattle.xpath_words.specs.Given.{with_front}
+use Rattle.xpath_words.specs.Code.Given.{with_front}
 use Rattle.xpath_words.proofs.meaning.meanings.Given as goal
 
 abbrev pub invariant-loop-word : goal.invariant-loop-word

@@ -1,6 +1,6 @@
 use Rattle.std.proofs.Common.{sym, ap, ◌∙◌}
 use Rattle.xpath_words.specs.Reading.{words_behind}
-use Rattle.xpath_words.specs.Given.{with_front}
+use Rattle.xpath_words.specs.Code.Given.{with_front}
 use Rattle.xpath_words.proofs.Turns.{space_turn, word_turn, word_refused, all_words, passed_on}
 use Rattle.xpath_words.proofs.TextLaws.{word_shorter}
 use Rattle.xpath_words.proofs.reading.words_of.Goals as goal

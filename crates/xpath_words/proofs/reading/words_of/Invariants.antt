@@ -1,7 +1,7 @@
 use Rattle.std.proofs.Common.{◌≡◌, length}
 use Rattle.std.specs.Str.{chars}
 use Rattle.xpath_words.specs.Reading.{words_behind}
-use Rattle.xpath_words.specs.Given.{with_front}
+use Rattle.xpath_words.specs.Code.Given.{with_front}
 use Rattle.xpath_words.proofs.reading.words_of.Given as goal
 
 abbrev pub invariant-loop-cursor : goal.invariant-loop-cursor

@@ -1,0 +1,55 @@
+//! Each row is from hand and RFC 3986 §5.4, where its rule is the same.
+use super::{join_base, join_into};
+use sig_base::{Put, VecSink};
+use std::alloc::Global;
+
+fn joins(alloc: Global, base: &str, own: &str, wanted: &str) -> bool {
+    let mut sink = VecSink::new(alloc);
+    match join_base(base, own, &mut sink) {
+        Put::Done => sink.finish().bytes() == wanted.as_bytes(),
+        Put::Refused => false,
+    }
+}
+
+/// The same in a buffer.
+fn joins_into(alloc: Global, base: &str, own: &str, wanted: &str) -> bool {
+    let room = base.len().saturating_add(own.len()).saturating_add(4);
+    let Ok(mut into) = Vec::with_capacity(alloc, room) else {
+        return false;
+    };
+    if into.capacity() < room || room == usize::MAX {
+        return false;
+    }
+    join_into(base.as_bytes(), own.as_bytes(), &mut into);
+    into.as_slice() == wanted.as_bytes()
+}
+
+#[test]
+fn joins_values(rt: HostRuntime) {
+    let rows = [
+        ("http://h/a", "../b", "http://h/b"),
+        ("a//b", "c", "a/c"),
+        ("a", "#f", "a"),
+        ("/x/", "../../y", "/y"),
+        ("..", "../y", "../../y"),
+        ("a/b/", "../c", "a/c"),
+        ("a/b", "..", ""),
+        ("a/b", "b/c/../d/./..", "a/b/"),
+        ("http://h", "a", "http://h/a"),
+        ("http://h/a?q", "?r", "http://h/a?r"),
+        ("http://h/a?q", "", "http://h/a?q"),
+        ("http://a/b/c/d;p?q", "g:h", "g:h"),
+        ("http://a/b/c/d;p?q", "g;x?y#s", "http://a/b/c/g;x?y"),
+        ("http://a/b/c/d;p?q", "../../g", "http://a/g"),
+        ("http://a/b/c/d;p?q", "../../../g", "http://a/g"),
+        ("http://a/b/c/d;p?q", "//g", "http://g"),
+        ("http://a/b/c/d;p?q", "./g/.", "http://a/b/c/g/"),
+    ];
+    for (base, own, wanted) in rows.iter() {
+        assert!(rt; joins(rt.alloc(), base, own, wanted), "{base} and {own}");
+        assert!(rt;
+            joins_into(rt.alloc(), base, own, wanted),
+            "{base} and {own}"
+        );
+    }
+}

@@ -1,0 +1,81 @@
+//! Canonical XML 1.1 of any set of rows (Canonical XML 1.1 §2), by a [`Renderer`] that has its memory from the start.
+//!
+//! What it does with `xml:base` is this project's own rule: `c14n_text/specs/Bases.antt` says from which elements values are
+//! taken, and [`join_base`] joins two of them.
+#![tactic(auto)]
+
+ghost use Rattle.std.specs.Prelude.{◌≡◌, IfOk, OnErr};
+ghost use Rattle.sig_base.specs.Puts.{Puts};
+ghost use Rattle.node_sets.specs.View.{in_view, rows_of};
+ghost use Rattle.c14n_bases.specs.Join.{join};
+ghost use Rattle.c14n_text.specs.Namespaces.{eleven};
+ghost use Rattle.c14n_text.specs.Canon.{canon};
+
+use c14n_rows::Method;
+use node_sets::SetView;
+use sig_base::{NoMemory, OctetSink, Put};
+use std::alloc::Global;
+use std::marker::Model;
+use xml_doc::Doc;
+
+/// Writes canonical forms of sets over one document.
+#[derive(Drop)]
+pub struct Renderer<'d> {
+    walks: c14n_rows::Renderer<'d>,
+}
+
+impl<'d> Model for Renderer<'d> {
+    ghost use Rattle.std.specs.Prelude.{List};
+    ghost use Rattle.xml_doc.specs.Rows.{RowOf};
+
+    ghost Value = { List RowOf };
+
+    ghost view = { λ r. r.walks };
+}
+
+impl<'d> Renderer<'d> {
+    /// Takes all memory that writing needs, that in which values of `xml:base` are joined too.
+    pub fn prepare(alloc: Global, doc: &'d Doc<'d>) -> Result<Renderer<'d>, NoMemory>
+        ensures { IfOk result (λ r. r ≡ doc.now) }
+    {
+        let walks = c14n_rows::Renderer::prepare(alloc, doc)?;
+        Ok(Renderer { walks })
+    }
+
+    /// Writes the canonical form of a set over the document, with comments or without, and takes no memory.
+    ///
+    /// `Refused` comes where the sink refused a piece, and leaves a prefix of the form in it. Either answer leaves the
+    /// renderer as prepared.
+    pub fn write<S: OctetSink>(&mut self, set: SetView<'_>, comments: bool, sink: &mut S) -> Put
+        requires { rows_of set ≡ self.old }
+        ensures puts { Puts S.stands_for S.refusals S.makes sink.old sink.new (canon eleven comments self.old (in_view set.entry)) result }
+        ensures as_prepared { self.new ≡ self.old }
+    {
+        self.walks.write(set, Method::Eleven, comments, sink)
+    }
+}
+
+/// Writes the canonical form of one set of rows, with comments or without. Memory is taken for the rows of the set's range and
+/// the rows above them alone, before anything is written: where it isn't given, nothing was.
+///
+/// `Refused` comes where the sink refused a piece, and leaves a prefix of the form in it.
+pub fn write_once<S: OctetSink>(
+    alloc: Global,
+    set: SetView<'_>,
+    comments: bool,
+    sink: &mut S,
+) -> Result<Put, NoMemory>
+    ensures puts { IfOk result (λ put. Puts S.stands_for S.refusals S.makes sink.old sink.new
+        (canon eleven comments (rows_of set.entry) (in_view set.entry)) put) }
+    ensures untouched { OnErr result (sink.new ≡ sink.old) }
+{
+    c14n_rows::write_once(alloc, set, Method::Eleven, comments, sink)
+}
+
+/// Writes the value that `own` gives below `base`. `Refused` comes where the sink refused a piece, and leaves a prefix of the
+/// value in it. It takes no memory.
+pub fn join_base<S: OctetSink>(base: &str, own: &str, sink: &mut S) -> Put
+    ensures { Puts S.stands_for S.refusals S.makes sink.old sink.new (join base.now own.now) result }
+{
+    c14n_bases::join_base(base, own, sink)
+}

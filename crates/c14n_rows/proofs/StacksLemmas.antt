@@ -1,0 +1,117 @@
+-- The stacks as a whole.
+use Rattle.std.proofs.Common.{◌≡◌, ℕ, ◌<◌, ◌≤◌, Bool, false, Option, Some, None, IfSome, List, [], length, refl, sym, ◌∙◌, subst, arith}
+use Rattle.std.specs.Prelude.{Result, Ok, Err, IfOk}
+use Rattle.std.proofs.lemmas.List.Elements.{All-same, All-nil}
+use Rattle.xml_doc.specs.Kinds.{is_element}
+use Rattle.xml_doc.specs.Rows.{RowOf}
+use Rattle.xml_doc.specs.Shape.{IsWellShaped}
+use Rattle.c14n_text.specs.Rows.{kind_of, parent_of}
+use Rattle.c14n_text.specs.Code.Rows.{last_of}
+use Rattle.c14n_text.specs.Namespaces.{Rule}
+use Rattle.c14n_text.specs.Bases.{with_bases}
+use Rattle.c14n_rows.specs.declared.stacks.Stacks.{Stacks}
+use Rattle.c14n_rows.specs.Joined.{BasesFit}
+use Rattle.c14n_rows.specs.Stacks.{count_of, octets_of, IsEmpty, RoomAt, RoomIn}
+use Rattle.c14n_rows.specs.Code.Stacks.{run_bases, HasRoom, IsTaken, Keeps, SlotFits, StacksAt}
+use Rattle.c14n_rows.proofs.StackLemmas.{slots_at-skip, slots_at-root, xml_at-skip, xml_at-root}
+use Rattle.c14n_rows.proofs.RunLemmas.{runs_at-skip, runs_at-root}
+use Rattle.c14n_rows.proofs.EntryLemmas.{total-above}
+
+pub stacks-skip : (rows : List RowOf) (set : ℕ → Bool) (rule : Rule) → IsWellShaped rows → (x : ℕ) (stacks : Stacks) → (x ≡ 0 → ⊥) → x < length rows → is_element (kind_of rows x) ≡ false
+    → StacksAt rows set rule (parent_of rows x) stacks → StacksAt rows set rule x stacks
+stacks-skip rows set rule w x stacks not_root lt is h = record {
+  slots_are = h.slots_are ∙ sym (slots_at-skip rows set rule w x not_root lt is);
+  slots_fit = h.slots_fit;
+  xml_are = h.xml_are ∙ sym (xml_at-skip rows w x not_root lt is);
+  xml_fit = h.xml_fit;
+  runs_are = h.runs_are ∙ sym (runs_at-skip rows set rule w x not_root lt is);
+  runs_fit = h.runs_fit;
+  is_joined = h.is_joined;
+}
+
+pub stacks-unskip : (rows : List RowOf) (set : ℕ → Bool) (rule : Rule) → IsWellShaped rows → (x : ℕ) (stacks : Stacks) → (x ≡ 0 → ⊥) → x < length rows → is_element (kind_of rows x) ≡ false
+    → StacksAt rows set rule x stacks → StacksAt rows set rule (parent_of rows x) stacks
+stacks-unskip rows set rule w x stacks not_root lt is h = record {
+  slots_are = h.slots_are ∙ slots_at-skip rows set rule w x not_root lt is;
+  slots_fit = h.slots_fit;
+  xml_are = h.xml_are ∙ xml_at-skip rows w x not_root lt is;
+  xml_fit = h.xml_fit;
+  runs_are = h.runs_are ∙ runs_at-skip rows set rule w x not_root lt is;
+  runs_fit = h.runs_fit;
+  is_joined = h.is_joined;
+}
+
+pub stacks-root : (rows : List RowOf) (set : ℕ → Bool) (rule : Rule) → IsWellShaped rows → (stacks : Stacks) → IsEmpty stacks → StacksAt rows set rule 0 stacks
+stacks-root rows set rule w stacks none = record {
+  slots_are = none.slots ∙ sym (slots_at-root rows set rule w);
+  slots_fit = All-same (SlotFits rows) stacks.slots.items [] none.slots (All-nil (SlotFits rows));
+  xml_are = none.xml ∙ sym (xml_at-root rows w);
+  xml_fit = All-same (λ a. a < length rows) stacks.xml.items [] none.xml (All-nil (λ a. a < length rows));
+  runs_are = none.runs ∙ sym (runs_at-root rows set rule w);
+  runs_fit = All-same (λ b. b < length rows) stacks.runs.items [] none.runs (All-nil (λ b. b < length rows));
+  is_joined = subst (λ (o : Option ℕ). IfSome o (λ b. Some (b, stacks.joining.run.items) ≡ with_bases rows None (run_bases rows set (parent_of rows b)))) (sym none.nearest) tt;
+}
+
+pub keeps-all : (stacks : Stacks) → Keeps stacks stacks
+keeps-all stacks = record { slots = omega arith; xml = omega arith; runs = omega arith; octets = refl; fit = λ (f : BasesFit stacks.joining). f }
+
+pub keeps-then : (old now new : Stacks) → Keeps old now → Keeps now new → Keeps old new
+keeps-then old now new a b = record {
+  slots = let m = a.slots in let n = b.slots in omega arith;
+  xml = let m = a.xml in let n = b.xml in omega arith;
+  runs = let m = a.runs in let n = b.runs in omega arith;
+  octets = a.octets ∙ b.octets;
+  fit = λ (f : BasesFit old.joining). b.fit (a.fit f);
+}
+
+pub room-kept : (rows : List RowOf) (x : ℕ) (old new : Stacks) → Keeps old new → RoomAt rows x old → RoomAt rows x new
+room-kept rows x old new k r = record {
+  slots = let m = r.slots in let n = k.slots in omega arith;
+  xml = let m = r.xml in let n = k.xml in omega arith;
+  runs = let m = r.runs in let n = k.runs in omega arith;
+  octets = let m = r.octets in let n = k.octets in omega arith;
+  fit = k.fit r.fit;
+}
+
+pub room_in-kept : (rows : List RowOf) (first until : ℕ) (old new : Stacks) → Keeps old new → RoomIn rows first until old → RoomIn rows first until new
+room_in-kept rows first until old new k r = record { at = λ (x : ℕ) (le : first ≤ x) (lt : x < until). room-kept rows x old new k (r.at x le lt) }
+
+-- an element above a row has no more to keep
+pub room-above : (rows : List RowOf) → IsWellShaped rows → (y x : ℕ) (stacks : Stacks) → y ≤ x → x ≤ last_of rows y → x < length rows → RoomAt rows x stacks → RoomAt rows y stacks
+room-above rows w y x stacks le within lt r =
+    let entries = total-above rows w (count_of rows) y x le within lt in
+    let octets = total-above rows w (octets_of rows) y x le within lt in
+    record {
+      slots = let m = r.slots in omega arith;
+      xml = let m = r.xml in omega arith;
+      runs = let m = r.runs in omega arith;
+      octets = let m = r.octets in omega arith;
+      fit = r.fit;
+    }
+
+-- what was taken is enough
+pub room-taken : (rows : List RowOf) (first until entries octets : ℕ) (stacks : Stacks) → HasRoom rows (count_of rows) first until entries → HasRoom rows (octets_of rows) first until octets → IsTaken entries octets stacks → RoomIn rows first until stacks
+room-taken rows first until entries octets stacks e o t = record {
+  at = λ (x : ℕ) (le : first ≤ x) (lt : x < until).
+      let m = e.room x le lt in let n = o.room x le lt in
+      record {
+        slots = let k = t.slots in omega arith;
+        xml = let k = t.xml in omega arith;
+        runs = let k = t.runs in omega arith;
+        octets = let k = t.octets in omega arith;
+        fit = t.fit;
+      };
+}
+
+pub room_in-less : (rows : List RowOf) (first until start fin : ℕ) (stacks : Stacks) → first ≤ start → fin ≤ until → RoomIn rows first until stacks → RoomIn rows start fin stacks
+room_in-less rows first until start fin stacks le less r = record { at = λ (x : ℕ) (ge : start ≤ x) (lt : x < fin). r.at x (omega arith) (omega arith) }
+
+pub room-if_taken : {E : Type 0} (rows : List RowOf) (first until entries octets : ℕ) (taken : Result Stacks E) → HasRoom rows (count_of rows) first until entries → HasRoom rows (octets_of rows) first until octets
+    → IfOk taken (λ s. IsTaken entries octets s) → IfOk taken (λ s. RoomIn rows first until s)
+room-if_taken rows first until entries octets (Ok s) e o t = room-taken rows first until entries octets s e o t
+room-if_taken rows first until entries octets (Err fault) e o t = tt
+
+-- without rows no room is needed
+pub room-if_none : {E : Type 0} (rows : List RowOf) (taken : Result Stacks E) → length rows ≤ 1 → IfOk taken (λ s. RoomIn rows 1 (length rows) s)
+room-if_none rows (Ok s) none = record { at = λ (x : ℕ) (le : 1 ≤ x) (lt : x < length rows). absurd (omega arith) }
+room-if_none rows (Err fault) none = tt

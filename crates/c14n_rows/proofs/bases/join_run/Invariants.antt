@@ -1,0 +1,17 @@
+use Rattle.std.proofs.Common.{◌≡◌, ◌≤◌, ◌+◌, ℕ, Some, length, take, vec_capacity}
+use Rattle.c14n_text.specs.Bases.{with_bases}
+use Rattle.c14n_rows.specs.Joined.{weights}
+use Rattle.c14n_rows.specs.Code.Stacks.{run_on}
+use Rattle.c14n_rows.proofs.bases.join_run.Given as goal
+
+abbrev pub invariant-loop-i : goal.invariant-loop-i
+invariant-loop-i l = record {
+  within : l.i ≤ length l.runs;
+  rest : (place : ℕ) → with_bases l.doc (Some (place, l.value.items)) (run_on l.doc (take l.i l.runs)) ≡ with_bases l.doc (Some (place, l.initial.value.items)) (run_on l.doc l.runs);
+  enough : length l.value.items + weights l.doc (run_on l.doc (take l.i l.runs)) ≤ l.room;
+  value_room : l.room ≤ vec_capacity l.value;
+  spare_room : l.room ≤ vec_capacity l.spare;
+}
+
+abbrev pub decreases-loop-i : goal.decreases-loop-i
+decreases-loop-i l = l.i

@@ -1,0 +1,4 @@
+-- What only the code's own contracts and the proofs speak of: no public contract says it.
+pub mod Joined
+pub mod Stacks
+pub mod Order

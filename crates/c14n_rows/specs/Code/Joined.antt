@@ -1,0 +1,43 @@
+use Rattle.std.specs.Prelude.{◌≡◌, ◌<◌, ℕ, List, [], ◌∷◌, length, Option, Some, None, option_map, IfSome, ◌⊎◌, if◌then◌else◌}
+use Rattle.xml_doc.specs.Rows.{RowOf}
+use Rattle.c14n_text.specs.Bases.{is_base}
+use Rattle.c14n_rows.specs.declared.bases.Base.{Base}
+use Rattle.c14n_rows.specs.declared.bases.Joining.{Joining}
+use Rattle.c14n_rows.specs.declared.bases.Found.{Found}
+use Rattle.c14n_rows.specs.declared.bases.Found.TheVariants.{Nothing, Run, Own}
+
+-- a row and a value, where there is a row
+abbrev pub with_value : Option ℕ → List ℕ → Option (ℕ × List ℕ)
+with_value place value = option_map (λ (p : ℕ). (p, value)) place
+
+-- the row in whose place it stands, and its value: as it is lent, and as it was found
+abbrev pub base_of : Option Base → Option (ℕ × List ℕ)
+base_of o = option_map (λ (b : Base). (b.place, b.value.now)) o
+
+abbrev pub found_of : Found → Joining → Option (ℕ × List ℕ)
+found_of Nothing joining = None
+found_of (Run place) joining = Some (place, joining.run.items)
+found_of (Own place) joining = Some (place, joining.own.items)
+
+-- its row is one of the document
+abbrev pub BaseThere : List RowOf → Option Base → Type 0
+BaseThere rows o = IfSome o (λ (b : Base). b.place < length rows)
+
+abbrev pub FoundThere : List RowOf → Found → Type 0
+FoundThere rows Nothing = Unit {0}
+FoundThere rows (Run place) = place < length rows
+FoundThere rows (Own place) = place < length rows
+
+-- a row where it is an `xml:base`
+abbrev pub if_base : List RowOf → ℕ → List ℕ
+if_base rows a = if is_base rows a then a ∷ [] else []
+
+-- how many octets are in a buffer that has a value where there is a row
+abbrev pub filled : Option ℕ → List ℕ → ℕ
+filled None value = 0
+filled (Some place) value = length value
+
+-- the run that was joined last is the one whose nearest row is b, with this value, or the one from before
+abbrev pub JoinedLast : (old new : Joining) → ℕ → Option (ℕ × List ℕ) → Type 0
+JoinedLast old new b value =
+    ((new.nearest ≡ Some b) × (Some (b, new.run.items) ≡ value)) ⊎ ((new.nearest ≡ old.nearest) × (new.run.items ≡ old.run.items))

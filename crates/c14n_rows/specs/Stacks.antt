@@ -1,0 +1,45 @@
+-- What a walk keeps of the elements that are open. Each leaves its entries on a stack, and takes them from it where it ends
+use Rattle.std.specs.Prelude.{◌≡◌, ℕ, ◌+◌, ◌<◌, ◌≤◌, None, List, [], ◌∷◌, length, if◌then◌else◌, vec_capacity}
+use Rattle.xml_doc.specs.Kinds.{is_element}
+use Rattle.xml_doc.specs.Rows.{RowOf}
+use Rattle.xml_doc.specs.Fields.{namespace_rows, attribute_rows}
+use Rattle.c14n_text.specs.Rows.{kind_of, parent_of}
+use Rattle.c14n_text.specs.Tree.{chain_within}
+use Rattle.c14n_text.specs.Bases.{bases}
+use Rattle.c14n_rows.specs.declared.stacks.Stacks.{Stacks}
+use Rattle.c14n_rows.specs.Joined.{BasesFit, weights}
+
+-- row x and the elements above it, the nearest first
+abbrev pub upwards : List RowOf → ℕ → List ℕ
+upwards rows x = chain_within (parent_of rows) (length rows) x
+
+-- how many entries row x has: one for itself, and one for each of its namespace rows and attribute rows
+abbrev pub count_of : List RowOf → ℕ → ℕ
+count_of rows x = if is_element (kind_of rows x) then 1 + length (namespace_rows rows x) + length (attribute_rows rows x) else 0
+
+-- how many octets the joining of its `xml:base` rows takes
+abbrev pub octets_of : List RowOf → ℕ → ℕ
+octets_of rows x = weights rows (bases rows x)
+
+abbrev pub total : (ℕ → ℕ) → List ℕ → ℕ
+total count [] = 0
+total count (x ∷ xs) = total count xs + count x
+
+-- the stacks and buffers have room where the walk stands at row x
+pub record RoomAt (rows : List RowOf) (x : ℕ) (stacks : Stacks) : Type 0 where
+  pub slots : total (count_of rows) (upwards rows x) ≤ vec_capacity stacks.slots
+  pub xml : total (count_of rows) (upwards rows x) ≤ vec_capacity stacks.xml
+  pub runs : total (count_of rows) (upwards rows x) ≤ vec_capacity stacks.runs
+  pub octets : total (octets_of rows) (upwards rows x) ≤ stacks.joining.room
+  pub fit : BasesFit stacks.joining
+
+-- the same for each row of a range
+pub record RoomIn (rows : List RowOf) (first until : ℕ) (stacks : Stacks) : Type 0 where
+  pub at : (x : ℕ) → first ≤ x → x < until → RoomAt rows x stacks
+
+-- nothing stands on the stacks, and no run was joined
+pub record IsEmpty (stacks : Stacks) : Type 0 where
+  pub slots : stacks.slots.items ≡ []
+  pub xml : stacks.xml.items ≡ []
+  pub runs : stacks.runs.items ≡ []
+  pub nearest : stacks.joining.nearest ≡ None

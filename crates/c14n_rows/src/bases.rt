@@ -1,0 +1,320 @@
+//! The `xml:base` that Canonical XML 1.1 gives an element whose parent is outside the set. The rule is this project's own.
+//!
+//! The values of a run are joined once for all elements right below it that have none of their own.
+ghost use Rattle.std.specs.Prelude.{◌≡◌, ℕ, ◌<◌, ◌≤◌, ◌+◌, ◌-◌, ◌++◌, ◌&&◌, length, Some, None, IfSome, List, slice_get, vec_capacity};
+ghost use Rattle.std.specs.List.{All, filter, range_with_len};
+ghost use Rattle.xml_doc.specs.Kinds.{is_element};
+ghost use Rattle.xml_doc.specs.Rows.{RowOf};
+ghost use Rattle.node_sets.specs.View.{in_view};
+ghost use Rattle.c14n_bases.specs.Join.{join};
+ghost use Rattle.c14n_text.specs.Rows.{kind_of, parent_of};
+ghost use Rattle.c14n_text.specs.Attributes.{imports_attributes};
+ghost use Rattle.c14n_text.specs.Bases.{bases, is_base, is_eleven, joined_base, with_bases};
+ghost use Rattle.c14n_rows.specs.Rules.{rule_of};
+ghost use Rattle.c14n_rows.specs.Joined.{BasesFit, weights};
+ghost use Rattle.c14n_rows.specs.Code.Joined.{BaseThere, FoundThere, JoinedLast, base_of, filled, found_of, if_base, with_value};
+ghost use Rattle.c14n_rows.specs.Stacks.{RoomAt};
+ghost use Rattle.c14n_rows.specs.Code.Stacks.{Keeps, StacksAt, run_on};
+
+use crate::attributes::{imports_attributes, is_element, is_xml};
+use crate::namespaces::Method;
+use crate::stacks::Stacks;
+use c14n_bases::join_into;
+use node_sets::SetView;
+use std::mem;
+use xml_doc::Doc;
+
+/// A joined `xml:base` that is lent.
+#[derive(Clone, Copy)]
+pub(crate) struct Base<'b> {
+    /// The row in whose place it stands.
+    pub place: u32,
+    /// The joined value.
+    pub value: &'b [u8],
+}
+
+/// Where a joined `xml:base` stands, with the row in whose place it is.
+#[derive(Clone, Copy)]
+pub(crate) enum Found {
+    /// There is none.
+    Nothing,
+    /// It is the value of the run that was joined last.
+    Run(u32),
+    /// It is the value of an element that has one, below a run.
+    Own(u32),
+}
+
+/// Joined values, and the memory for joining.
+#[derive(Drop)]
+pub(crate) struct Joining {
+    /// The nearest row of the run that was joined last.
+    pub nearest: Option<u32>,
+    /// The value of that run.
+    pub run: Vec<u8>,
+    /// The value of an element that has one, below a run.
+    pub own: Vec<u8>,
+    /// Where the next value is put together.
+    pub spare: Vec<u8>,
+    /// How many octets each of these has room for.
+    pub room: usize,
+}
+
+/// Lends what was found.
+pub(crate) fn lend(found: Found, joining: &Joining) -> Option<Base<'_>>
+    ensures value { base_of result ≡ found_of found joining.now }
+    ensures there { (rows : List RowOf) → FoundThere rows found → BaseThere rows result }
+{
+    match found {
+        Found::Nothing => None,
+        Found::Run(place) => Some(Base {
+            place,
+            value: &joining.run,
+        }),
+        Found::Own(place) => Some(Base {
+            place,
+            value: &joining.own,
+        }),
+    }
+}
+
+/// Whether the rule is that of Canonical XML 1.1.
+pub(crate) fn is_eleven(method: Method<'_>) -> bool
+    ensures { result ≡ is_eleven (rule_of method.entry) }
+{
+    matches!(method, Method::Eleven)
+}
+
+/// Whether an attribute row is an `xml:base`.
+pub(crate) fn is_base(doc: &Doc<'_>, a: u32) -> bool
+    requires { a < length doc.now }
+    ensures { result ≡ is_base doc.now a }
+{
+    is_xml(doc, a) && doc.local_name(a) == "base"
+}
+
+/// Puts a value in a buffer, which has room for it.
+fn copy_value(value: &str, into: &mut Vec<u8>)
+    requires { length value.now ≤ vec_capacity into.old }
+    ensures items { into.new.items ≡ value.now }
+    ensures capacity { vec_capacity into.old ≤ vec_capacity into.new }
+{
+    into.clear();
+    into.extend_from_slice(value.as_bytes()).unwrap();
+}
+
+/// Joins a value below a base, in the other buffer, which has room for both.
+fn join_value(base: &str, value: &mut Vec<u8>, spare: &mut Vec<u8>)
+    requires { length base.now + length value.old.items + 4 ≤ vec_capacity spare.old }
+    ensures items { value.new.items ≡ join base.now value.old.items }
+    ensures value_capacity { vec_capacity spare.old ≤ vec_capacity value.new }
+    ensures spare_capacity { vec_capacity value.old ≤ vec_capacity spare.new }
+{
+    join_into(base.as_bytes(), value, spare);
+    mem::swap(value, spare);
+}
+
+/// Joins a value below those of a run, which stand on top of the stack.
+fn join_run(doc: &Doc<'_>, runs: &[u32], value: &mut Vec<u8>, spare: &mut Vec<u8>, room: usize)
+    requires runs_fit { All (λ b. b < length doc.now) runs.now }
+    requires value_room { room ≤ vec_capacity value.old }
+    requires spare_room { room ≤ vec_capacity spare.old }
+    requires enough { length value.old.items + weights doc.now (run_on doc.now runs.now) ≤ room }
+    ensures joined { (place : ℕ) → Some (place, value.new.items)
+        ≡ with_bases doc.now (Some (place, value.old.items)) (run_on doc.now runs.now) }
+    ensures value_room { room ≤ vec_capacity value.new }
+    ensures spare_room { room ≤ vec_capacity spare.new }
+{
+    let mut i = runs.len();
+    while i > 0 {
+        i -= 1;
+        let b = runs[i];
+        if is_element(doc.kind(b)) {
+            return;
+        }
+        join_value(doc.value(b), value, spare);
+    }
+}
+
+/// The nearest row of the run that stands on top of the stack.
+fn nearest_base(doc: &Doc<'_>, runs: &[u32]) -> Option<u32>
+    requires runs_fit { All (λ b. b < length doc.now) runs.now }
+    ensures nearest { result ≡ slice_get (run_on doc.now runs.now) 0 }
+    ensures there { IfSome result (λ b. b < length doc.now) }
+{
+    if runs.is_empty() {
+        return None;
+    }
+    let b = runs[runs.len() - 1];
+    if is_element(doc.kind(b)) {
+        None
+    } else {
+        Some(b)
+    }
+}
+
+/// Joins the run whose nearest row is `b`, where it isn't the one that was joined last.
+fn join_nearest(doc: &Doc<'_>, runs: &[u32], joining: &mut Joining, b: u32)
+    requires runs_fit { All (λ b. b < length doc.now) runs.now }
+    requires nearest { Some b ≡ slice_get (run_on doc.now runs.now) 0 }
+    requires fit { BasesFit joining.old }
+    requires enough { weights doc.now (run_on doc.now runs.now) ≤ joining.old.room }
+    requires joined { joining.old.nearest ≡ Some b → Some (b, joining.old.run.items) ≡ with_bases doc.now None (run_on doc.now runs.now) }
+    ensures joined { Some (b, joining.new.run.items) ≡ with_bases doc.now None (run_on doc.now runs.now) }
+    ensures nearest { joining.new.nearest ≡ Some b }
+    ensures fit { BasesFit joining.new }
+    ensures room { joining.new.room ≡ joining.old.room }
+{
+    if joining.nearest == Some(b) {
+        return;
+    }
+    copy_value(doc.value(b), &mut joining.run);
+    join_run(
+        doc,
+        &runs[..runs.len() - 1],
+        &mut joining.run,
+        &mut joining.spare,
+        joining.room,
+    );
+    joining.nearest = Some(b);
+}
+
+/// An element's value so far, joined below that of its attribute `a` where this is an `xml:base`; `place` is the row of
+/// the first of these, if one came.
+fn join_attribute(
+    doc: &Doc<'_>,
+    own: &mut Vec<u8>,
+    spare: &mut Vec<u8>,
+    room: usize,
+    place: Option<u32>,
+    a: u32,
+) -> Option<u32>
+    requires here { a < length doc.now }
+    requires there { IfSome place (λ b. b < length doc.now) }
+    requires own_room { room ≤ vec_capacity own.old }
+    requires spare_room { room ≤ vec_capacity spare.old }
+    requires enough { filled place own.old.items + weights doc.now (if_base doc.now a) ≤ room }
+    ensures value { with_value result own.new.items ≡ with_bases doc.now (with_value place own.old.items) (if_base doc.now a) }
+    ensures there { IfSome result (λ b. b < length doc.now) }
+    ensures few { filled result own.new.items ≤ filled place own.old.items + weights doc.now (if_base doc.now a) }
+    ensures own_room { room ≤ vec_capacity own.new }
+    ensures spare_room { room ≤ vec_capacity spare.new }
+{
+    if !is_base(doc, a) {
+        return place;
+    }
+    match place {
+        None => {
+            copy_value(doc.value(a), own);
+            Some(a)
+        }
+        Some(first) => {
+            join_value(doc.value(a), own, spare);
+            Some(first)
+        }
+    }
+}
+
+/// The value of the `xml:base` rows among the attribute rows from `from` to before `until`.
+fn join_attributes(
+    doc: &Doc<'_>,
+    own: &mut Vec<u8>,
+    spare: &mut Vec<u8>,
+    room: usize,
+    from: u32,
+    until: u32,
+) -> Option<u32>
+    requires rows { until ≤ length doc.now }
+    requires own_room { room ≤ vec_capacity own.old }
+    requires spare_room { room ≤ vec_capacity spare.old }
+    requires enough { weights doc.now (filter (is_base doc.now) (range_with_len from (until - from))) ≤ room }
+    ensures value { with_value result own.new.items
+        ≡ with_bases doc.now None (filter (is_base doc.now) (range_with_len from (until - from))) }
+    ensures there { IfSome result (λ b. b < length doc.now) }
+    ensures few { filled result own.new.items ≤ weights doc.now (filter (is_base doc.now) (range_with_len from (until - from))) }
+    ensures own_room { room ≤ vec_capacity own.new }
+    ensures spare_room { room ≤ vec_capacity spare.new }
+{
+    let mut place = None;
+    for a in from..until {
+        place = join_attribute(doc, own, spare, room, place, a);
+    }
+    place
+}
+
+/// The joined value of element `x`, where the run above it has the row `b` nearest.
+fn join_element(doc: &Doc<'_>, runs: &[u32], joining: &mut Joining, x: u32, b: u32) -> Found
+    requires here { x < length doc.now }
+    requires runs_fit { All (λ b. b < length doc.now) runs.now }
+    requires row { b < length doc.now }
+    requires nearest { Some b ≡ slice_get (run_on doc.now runs.now) 0 }
+    requires fit { BasesFit joining.old }
+    requires enough { weights doc.now (bases doc.now x) + weights doc.now (run_on doc.now runs.now) ≤ joining.old.room }
+    requires joined { joining.old.nearest ≡ Some b → Some (b, joining.old.run.items) ≡ with_bases doc.now None (run_on doc.now runs.now) }
+    ensures value { found_of result joining.new ≡ with_bases doc.now None (bases doc.now x ++ run_on doc.now runs.now) }
+    ensures there { FoundThere doc.now result }
+    ensures joined { JoinedLast joining.old joining.new b (with_bases doc.now None (run_on doc.now runs.now)) }
+    ensures fit { BasesFit joining.new }
+    ensures room { joining.new.room ≡ joining.old.room }
+{
+    let rows = doc.own_rows(x);
+    let own = join_attributes(
+        doc,
+        &mut joining.own,
+        &mut joining.spare,
+        joining.room,
+        rows.first_attribute,
+        rows.first_child,
+    );
+    match own {
+        None => {
+            join_nearest(doc, runs, joining, b);
+            Found::Run(b)
+        }
+        Some(place) => {
+            join_run(
+                doc,
+                runs,
+                &mut joining.own,
+                &mut joining.spare,
+                joining.room,
+            );
+            Found::Own(place)
+        }
+    }
+}
+
+/// Whether values are joined for row `x` where a run stands above it.
+fn joins(doc: &Doc<'_>, set: SetView<'_>, method: Method<'_>, x: u32) -> bool
+    requires { x < length doc.now }
+    ensures { result ≡ (is_eleven (rule_of method.entry)
+        && (is_element (kind_of doc.now x) && imports_attributes doc.now (in_view set.entry) (rule_of method.entry) x)) }
+{
+    is_eleven(method) && is_element(doc.kind(x)) && imports_attributes(doc, set, method, x)
+}
+
+/// What stands as the `xml:base` of row `x` in the place of its own.
+pub(crate) fn joined_base(
+    doc: &Doc<'_>,
+    set: SetView<'_>,
+    method: Method<'_>,
+    stacks: &mut Stacks,
+    x: u32,
+) -> Found
+    requires below { 0 < x }
+    requires here { x < length doc.now }
+    requires stacks { StacksAt doc.now (in_view set) (rule_of method) (parent_of doc.now x) stacks.old }
+    requires room { RoomAt doc.now x stacks.old }
+    ensures value { found_of result stacks.new.joining ≡ joined_base doc.now (in_view set.entry) (rule_of method.entry) x }
+    ensures there { FoundThere doc.now result }
+    ensures stacks { StacksAt doc.now (in_view set.entry) (rule_of method.entry) (parent_of doc.now x) stacks.new }
+    ensures kept { Keeps stacks.old stacks.new }
+{
+    let _rows = doc.rows();
+    if !joins(doc, set, method, x) {
+        return Found::Nothing;
+    }
+    match nearest_base(doc, &stacks.runs) {
+        None => Found::Nothing,
+        Some(b) => join_element(doc, &stacks.runs, &mut stacks.joining, x, b),
+    }
+}

@@ -1,0 +1,4 @@
+pub mod CoveredLemmas
+pub mod FilterLemmas
+pub mod SelectionLemmas
+pub mod Worked

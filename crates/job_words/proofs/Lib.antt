@@ -1,0 +1,10 @@
+mod Builder
+mod CommandLaw
+mod Equals
+mod Lookups
+mod Matches
+mod NumberLaws
+mod Rows
+mod Steps
+mod WalkLaw
+mod WorkedExamples

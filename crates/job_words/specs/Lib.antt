@@ -1,0 +1,7 @@
+pub mod Answers
+pub mod Command
+pub mod Given
+pub mod Job
+pub mod Values
+pub mod Word
+pub mod Code

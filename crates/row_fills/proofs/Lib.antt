@@ -1,0 +1,6 @@
+pub mod One
+pub mod Several
+pub mod Lasts
+pub mod Together
+pub mod Info
+pub mod InOrder

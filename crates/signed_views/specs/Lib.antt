@@ -1,0 +1,4 @@
+pub mod Given
+pub mod Handing
+pub mod Names
+pub mod Code

@@ -1,0 +1,6 @@
+pub mod Rising
+pub mod Valid
+pub mod Bare
+pub mod Octets
+pub mod Premises
+pub mod Made

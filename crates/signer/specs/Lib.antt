@@ -1,0 +1,4 @@
+pub mod Signed
+pub mod Outcome
+pub mod Laws
+pub mod Code

@@ -1,0 +1,13 @@
+//! Signing with HMAC: a template is filled in (XML Signature 1.1 §3.1), and what is signed then validates.
+//!
+//! A template is a document with a Signature whose digests and signature value don't count. The digests of its views are
+//! written over its DigestValues, and the HMAC of its canonical SignedInfo over its SignatureValue. No other octet changes.
+#![tactic(auto)]
+
+mod laws;
+mod refusal;
+
+pub use crate::laws::{
+    what_is_filled_in_is_spelled, what_is_signed_holds, what_is_signed_is_valid,
+};
+pub use crate::refusal::SignRefusal;

@@ -1,0 +1,9 @@
+pub mod Limits
+pub mod Stops
+pub mod StepLaws
+pub mod ChainLaws
+pub mod ExpressionLaws
+pub mod TextLaws
+pub mod StartLaws
+pub mod ViewLaws
+pub mod WorkedExamples

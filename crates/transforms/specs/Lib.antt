@@ -1,0 +1,9 @@
+pub mod Values
+pub mod Start
+pub mod Expressions
+pub mod Steps
+pub mod Views
+pub mod Outcome
+pub mod Answers
+pub mod Asked
+pub mod Code

@@ -1,0 +1,13 @@
+use Rattle.std.proofs.Common.{◌≡◌, ◌+◌, ◌≤◌, length}
+use Rattle.sig_base.specs.Lines.{lines_of, lines_read}
+use Rattle.uri_refs.specs.Catalogs as spec
+use Rattle.uri_refs.proofs.catalog.Catalog.read.Given as goal
+
+abbrev pub invariant-loop-rest : goal.invariant-loop-rest
+invariant-loop-rest l = record {
+  number : l.number + length l.rest ≤ length l.bytes + 1;
+  reads : lines_read spec.line_read l.number (lines_of l.rest) l.entries.items ≡ spec.catalog_of l.bytes;
+}
+
+abbrev pub decreases-loop-rest : goal.decreases-loop-rest
+decreases-loop-rest l = length l.rest

@@ -1,0 +1,11 @@
+pub mod Bases
+pub mod Cuts
+pub mod Answers
+pub mod Pointers
+pub mod Names
+pub mod CatalogEntries
+pub mod CatalogLines
+pub mod Catalogs
+pub mod CatalogFiles
+pub mod Targets
+pub mod Code

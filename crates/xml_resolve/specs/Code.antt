@@ -1,0 +1,5 @@
+-- What only the code's own contracts and the proofs speak of: no public contract says it.
+pub mod Keys
+pub mod Seen
+pub mod SeenRows
+pub mod Steps

@@ -1,0 +1,16 @@
+pub mod Gatherings
+pub mod Limits
+pub mod Nearest
+pub mod NodeOrder
+pub mod Order
+pub mod Orders
+pub mod Outcomes
+pub mod Rows
+pub mod Selections
+pub mod Spine
+pub mod Steps
+pub mod Texts
+pub mod Tokens
+pub mod Totals
+pub mod Turns
+pub mod WorkedExamples

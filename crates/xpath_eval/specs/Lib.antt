@@ -1,0 +1,12 @@
+pub mod Found
+pub mod Context
+pub mod Order
+pub mod NodeTests
+pub mod Steps
+pub mod Arithmetic
+pub mod Comparisons
+pub mod Functions
+pub mod Meaning
+pub mod Outcome
+pub mod Value
+pub mod Code

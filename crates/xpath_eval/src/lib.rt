@@ -1,0 +1,26 @@
+//! What an expression of XPath 1.0 comes to, at a node of a document.
+#![tactic(auto)]
+
+mod arithmetic;
+mod comparison;
+mod enough;
+mod evaluation;
+mod found;
+mod function;
+mod gathering;
+mod ids;
+mod languages;
+mod laws;
+mod node_test;
+mod nodes;
+mod operator;
+mod refusal;
+mod scene;
+mod sums;
+mod value;
+mod waiting;
+mod wording;
+
+pub use laws::document_order;
+pub use refusal::EvalRefusal;
+pub use value::{Value, eval, filter_each};
