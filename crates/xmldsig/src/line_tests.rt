@@ -299,6 +299,17 @@ fn expect_views(rt: &impl Abort, keeper: &Box<dyn ViewKeeper>, views: &[&str]) {
     assert!(rt; keeper.entry(views.len()).is_none());
 }
 
+/// Asserts that each keeper has just the views that stand beside it.
+fn expect_each(rt: &impl Abort, keepers: &[Box<dyn ViewKeeper>], wanted: &[&[&str]]) {
+    for (k, keeper) in keepers.iter().enumerate() {
+        let Some(views) = wanted.get(k) else {
+            panic!(rt);
+        };
+        expect_views(rt, keeper, views);
+    }
+    assert_eq!(rt; keepers.len(), wanted.len());
+}
+
 const LINE: &str = "validate d.xml --keys k.txt --views v";
 
 const ONE: &str = "<Object xmlns=\"http://www.w3.org/2000/09/xmldsig#\" Id=\"obj\">Hello</Object>";
@@ -319,6 +330,10 @@ fn two_keepers(rt: HostRuntime) -> Result<(), Fail> {
     let alloc = rt.alloc();
     let right = two_references(alloc, HELLO, "6DRoVyEJ5ashFnKl0ZsxsyQmqK1UXe9jDduV2+mR768=")?;
     let wrong = two_references(alloc, TWO, "E1B66OlwoXI+Jqzf0zAXrRKMu7tmVtx/jexcml9SlM8=")?;
+    let views = [ONE, OTHER];
+    let both: &[&str] = &views;
+    let one: &[&str] = &views[..1];
+    let none: &[&str] = &views[..0];
     for (document, failing, status, out, err, first, second) in [
         (
             &right,
@@ -326,8 +341,8 @@ fn two_keepers(rt: HostRuntime) -> Result<(), Fail> {
             Status::Valid,
             "valid\nreference 1 octets 74\nreference 2 octets 72\n",
             "",
-            2,
-            2,
+            both,
+            both,
         ),
         (
             &right,
@@ -335,8 +350,8 @@ fn two_keepers(rt: HostRuntime) -> Result<(), Fail> {
             Status::ViewFault,
             "",
             "fault view 2 2\n",
-            2,
-            1,
+            both,
+            one,
         ),
         (
             &wrong,
@@ -344,8 +359,8 @@ fn two_keepers(rt: HostRuntime) -> Result<(), Fail> {
             Status::Invalid,
             "invalid digests 1\n",
             "",
-            0,
-            0,
+            none,
+            none,
         ),
     ] {
         let mut keepers: Vec<Box<dyn ViewKeeper>> = Vec::new(alloc);
@@ -359,9 +374,7 @@ fn two_keepers(rt: HostRuntime) -> Result<(), Fail> {
             room: 100,
         };
         expect(&rt, alloc, document, LINE, &mut keepers, end)?;
-        let views = [ONE, OTHER];
-        expect_views(&rt, &keepers[0], &views[..first]);
-        expect_views(&rt, &keepers[1], &views[..second]);
+        expect_each(&rt, keepers.as_slice(), &[first, second]);
     }
     Ok(())
 }
@@ -417,7 +430,8 @@ fn views(rt: HostRuntime) -> Result<(), Fail> {
             ..printed(Status::Valid, out)
         };
         expect(&rt, alloc, document, &line, &mut keepers, end)?;
-        expect_views(&rt, &keepers[0], &[view]);
+        let only: &[&str] = &[view];
+        expect_each(&rt, keepers.as_slice(), &[only]);
     }
     Ok(())
 }

@@ -328,3 +328,38 @@ fn names_of_keys(rt: HostRuntime) -> Result<(), Fail> {
     expect_refusal(&rt, alloc, with_document(&text), "refused UnknownKey\n")?;
     Ok(())
 }
+
+/// A report, up to the Transform of its signature's one Reference.
+const REPORT: &str =
+    "<report xmlns=\"urn:example:report\">\n  <finding number=\"1\">The seal of tank 4 is worn.<note>Ordered on Monday.</note></finding>\n  <finding number=\"2\">No fault at tank 5.</finding>\n  <Signature xmlns=\"http://www.w3.org/2000/09/xmldsig#\">\n    <SignedInfo>\n      <CanonicalizationMethod Algorithm=\"http://www.w3.org/2001/10/xml-exc-c14n#\"/>\n      <SignatureMethod Algorithm=\"http://www.w3.org/2001/04/xmldsig-more#hmac-sha256\"/>\n      <Reference URI=\"\">\n        <Transforms>\n";
+
+const BY_EXPRESSION: &str =
+    "          <Transform Algorithm=\"http://www.w3.org/TR/1999/REC-xpath-19991116\">\n            <XPath xmlns:r=\"urn:example:report\" xmlns:d=\"http://www.w3.org/2000/09/xmldsig#\">not(ancestor-or-self::r:note or ancestor-or-self::d:Signature)</XPath>\n          </Transform>\n";
+
+const BY_FILTERS: &str =
+    "          <Transform Algorithm=\"http://www.w3.org/2002/06/xmldsig-filter2\">\n            <XPath xmlns=\"http://www.w3.org/2002/06/xmldsig-filter2\" Filter=\"subtract\">here()/ancestor::*[local-name()='Signature'][1]</XPath>\n            <XPath xmlns=\"http://www.w3.org/2002/06/xmldsig-filter2\" xmlns:r=\"urn:example:report\" Filter=\"subtract\">//r:note</XPath>\n          </Transform>\n";
+
+const DIGESTED: &str =
+    "        </Transforms>\n        <DigestMethod Algorithm=\"http://www.w3.org/2001/04/xmlenc#sha256\"/>\n        <DigestValue>NQ2QJiGrbkcFVrGptzREJSqTQA9vmTOaXlbqdTeSNns=</DigestValue>\n      </Reference>\n    </SignedInfo>\n    <SignatureValue>";
+
+#[test]
+fn parts_of_a_report(rt: HostRuntime) -> Result<(), Fail> {
+    let alloc = rt.alloc();
+    for (transform, value) in [
+        (
+            BY_EXPRESSION,
+            "ETIMcyPSk32qoeCQZfvY9HdabFQt3Dyhl54enTTWEpA=",
+        ),
+        (BY_FILTERS, "/Da0P+ZZeeXzxt16p7wrjwj/Xm6WcnLae6u4dHB4ZDk="),
+    ] {
+        let end = "</SignatureValue>\n  </Signature>\n</report>\n";
+        let text = joined(alloc, &[REPORT, transform, DIGESTED, value, end])?;
+        expect_report(
+            &rt,
+            alloc,
+            with_document(&text),
+            "valid\nreference 1 octets 160\n",
+        )?;
+    }
+    Ok(())
+}
