@@ -5,3 +5,4 @@ pub mod Texts
 pub mod Together
 pub mod Info
 pub mod InOrder
+pub mod Refilled

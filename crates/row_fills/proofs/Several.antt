@@ -243,7 +243,8 @@ module _ (octets : List ℕ) (rows : List RowOf) (shape : IsWellShaped rows) (fi
       let still : g (a.number i) ≡ i = ap g (a.front i less).1 ∙ low i (omega (arith, in_front i (omega arith), r.starts)) in (
         omega (arith, still),
         subst (λ n. Stands (refilled (filled_in octets rows fs) (row_at a.others i) f.text) r.others n f.text) (sym still) (own_stands (filled_in octets rows fs) a.others i f.text a.spells alone' r),
-        later_stand (filled_in octets rows fs) a.others i f.text a.spells alone' r a.number first fs less a.texts,
+        later_stand (filled_in octets rows fs) a.others i f.text a.spells alone' r a.number first (g (a.number i) + 1) fs less
+            (λ k le far. let goes = high k far in omega (arith, still, goes, far, r.inside, r.grows)) a.texts,
       )
 
   filled : AreFilled octets rows f.row (f ∷ fs)

@@ -1,5 +1,5 @@
 -- Where the texts stand that were filled in, in octets and in rows.
-use Rattle.std.proofs.Common.{◌≡◌, ℕ, ◌+◌, ◌-◌, ◌<◌, ◌≤◌, Bool, true, false, ◌⊎◌, inl, inr, List, [], ◌∷◌, ◌++◌, length, take, drop, refl, sym, ap, subst, ◌∙◌, arith, append-nil, append_assoc, length-append}
+use Rattle.std.proofs.Common.{◌≡◌, ℕ, ◌+◌, ◌-◌, ◌<◌, ◌≤◌, Bool, true, false, inl, inr, List, [], ◌∷◌, ◌++◌, length, take, drop, refl, sym, ap, ◌∙◌, arith, append-nil, append_assoc, length-append}
 use Rattle.std.proofs.lemmas.Bool.{cases_lt, false≢true}
 use Rattle.std.proofs.lemmas.List.{take-append-le, drop-append-le, length-take-le, length-drop}
 use Rattle.xml_doc.specs.Rows.{RowOf}
@@ -134,12 +134,15 @@ module _ (octets : List ℕ) (rows : List RowOf) (i : ℕ) (w : List ℕ) (spell
       }
 
   -- all texts behind it
-  pub later_stand : (number : ℕ → ℕ) (first : ℕ) (fs : List Filling) → i < first → AllStand octets rows number first fs → AllStand (refilled octets (row_at rows i) w) r.others (λ x. renumbered r.old r.new (number x)) i fs
-  later_stand number first [] less all = tt
-  later_stand number first (f ∷ fs) less all = (place (number f.row) (omega (arith, less, all.0)) all.1.alone.element, later_stands (number f.row) f.text (omega (arith, less, all.0)) all.1, later_stand number first fs less all.2)
+  pub later_stand : (number : ℕ → ℕ) (first now : ℕ) (fs : List Filling) → i < first → ((k : ℕ) → first ≤ k → r.old ≤ k → now ≤ renumbered r.old r.new k) → AllStand octets rows number first fs
+      → AllStand (refilled octets (row_at rows i) w) r.others (λ x. renumbered r.old r.new (number x)) now fs
+  later_stand number first now [] less low all = tt
+  later_stand number first now (f ∷ fs) less low all = (
+    low (number f.row) all.0 from,
+    later_stands (number f.row) f.text (omega (arith, less, all.0)) all.1,
+    later_stand number (number f.row + 1) (renumbered r.old r.new (number f.row) + 1) fs (omega (arith, less, all.0))
+        (λ k le far. let here = lasts.renumbered_behind r.old r.new (number f.row) from in let there = lasts.renumbered_behind r.old r.new k far in omega (arith, here, there, le, from)) all.2,
+  )
     where
-      place : (k : ℕ) → i < k → (row_at rows k).kind ≡ Element → i ≤ renumbered r.old r.new k
-      place k lt e =
-          let stops = stands_behind rows i k alone lt e in
-          let goes = lasts.renumbered_behind r.old r.new k (omega (arith, stops, r.ends)) in
-          omega (arith, goes, stops, r.ends, r.inside, r.grows)
+      from : r.old ≤ number f.row
+      from = let stops = stands_behind rows i (number f.row) alone (omega (arith, less, all.0)) all.1.alone.element in omega (arith, stops, r.ends)

@@ -289,7 +289,7 @@ module _ (octets : List ℕ) (rows : List RowOf) (i : ℕ) (w w' : List ℕ) (r 
 
 pub last_stands : (octets : List ℕ) (rows : List RowOf) (number : ℕ → ℕ) (from : ℕ) (fs : List Filling) (w : Filling) → AllStand octets rows number from (fs ++ w ∷ []) → Stands octets rows (number w.row) w.text
 last_stands octets rows number from [] w all = all.1
-last_stands octets rows number from (f ∷ fs) w all = last_stands octets rows number from fs w all.2
+last_stands octets rows number from (g ∷ fs) w all = last_stands octets rows number (number g.row + 1) fs w all.2
 
 -- the last one, with either text
 last_pair : (octets : List ℕ) (rows : List RowOf) (spells : Spells octets rows) (row : ℕ) (t o t' o' : List ℕ) → CanFill rows (filling row t o) → CanFill rows (filling row t' o')

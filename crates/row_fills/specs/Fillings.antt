@@ -54,10 +54,16 @@ pub record Stands (octets : List ℕ) (rows : List RowOf) (k : ℕ) (text : List
   pub begins : (row_at rows k).body_from ≡ length front
   pub ends : (row_at rows k).body_until ≡ (row_at rows k).body_from + length text
 
--- the text of each stands in the element that has this number now, and no such number is below `from`
+-- the text of each stands in the element that has this number now, and these numbers rise from this one on
 abbrev pub AllStand : List ℕ → List RowOf → (number : ℕ → ℕ) → (from : ℕ) → List Filling → Type 0
 AllStand octets rows number from [] = Unit {0}
-AllStand octets rows number from (f ∷ fs) = (from ≤ number f.row) × Stands octets rows (number f.row) f.text × AllStand octets rows number from fs
+AllStand octets rows number from (f ∷ fs) = (from ≤ number f.row) × Stands octets rows (number f.row) f.text
+    × AllStand octets rows number (number f.row + 1) fs
+
+-- the same texts in the elements that have these numbers now
+abbrev pub filled_again : (number : ℕ → ℕ) → List Filling → List Filling
+filled_again number [] = []
+filled_again number (f ∷ fs) = record { row = number f.row; text = f.text; octets = f.octets } ∷ filled_again number fs
 
 -- The document with all of them filled in, of which `first` is the first. Its rows stand for those of the document; those in
 -- front of the first are the same nodes, and a row whose subtree ends there is the same. Each text stands in its element.
