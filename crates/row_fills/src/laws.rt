@@ -8,7 +8,7 @@ ghost use Rattle.xml_read.specs.Spelled.{Spells};
 ghost use Rattle.row_spans.specs.RowSpans.{InOrder};
 ghost use Rattle.row_fills.specs.Fillings.{Filling, CanFillAll, AreFilled, AreFilledAlike, LiesInFront, filled_again, filled_in, first_of, filling, spans_of};
 
-/// The octets with texts filled in spell a document too, whose rows stand for those of the first.
+/// The octets with texts filled in spell a document too, whose rows stand for those of the first. Each text stands in its element.
 pub fn texts_are_read_again()
     ensures { (octets : List ℕ) (rows : List RowOf) (f : Filling) (fs : List Filling) → Spells octets rows → CanFillAll rows 0 (f ∷ fs)
         → AreFilled octets rows f.row (f ∷ fs) }
@@ -20,7 +20,7 @@ pub fn fillings_lie_in_order()
         → InOrder 0 (length octets) (spans_of rows fs) }
 {}
 
-/// Where only the text of the last element differs, both documents begin alike up to it.
+/// Where only the text of the last element differs, both documents begin alike up to it, and their octets are the same but for it.
 pub fn texts_in_front_are_read_alike()
     ensures { (octets : List ℕ) (rows : List RowOf) (fs : List Filling) (row : ℕ) (text spelled other_text other_spelled : List ℕ)
         → Spells octets rows

@@ -1,5 +1,5 @@
 -- Signing what is signed gives the same octets.
-use Rattle.std.proofs.Common.{◌≡◌, ℕ, ◌+◌, Bool, true, false, if◌then◌else◌, Option, None, Some, Result, Ok, Err, List, [], ◌∷◌, length, refl, sym, ap, subst, ◌∙◌, arith}
+use Rattle.std.proofs.Common.{◌≡◌, ℕ, ◌+◌, true, if◌then◌else◌, None, Some, Result, Ok, Err, List, [], ◌∷◌, length, sym, ap, subst, ◌∙◌, arith}
 use Rattle.std.specs.Prelude.{nat_le}
 use Rattle.sig_base.specs.Outcomes.{and_then, with_cause}
 use Rattle.sig_outside.specs.Told.{Held}
@@ -123,7 +123,7 @@ module _ (octets : List ℕ) (question : QuestionOf) (files : Held) (made : List
   again =
       signed_again octets s.rows f.one f.two question.index s.x s.fields u.views s.then_fields.key.octets spells s.found s.fields_are count u.long can.before can.empty
       (can.value (value_under f.one s.fields s.then_fields.key.octets)
-          (kept_bytes s.fields.mac s.then_fields.key.octets (canonical_signed_info f.one s.fields) (value_bits s.fields.mac s.fields.bits)))
+      (kept_bytes s.fields.mac s.then_fields.key.octets (canonical_signed_info f.one s.fields) (value_bits s.fields.mac s.fields.bits)))
       spells_made
 
   -- the views of the signed document are the same

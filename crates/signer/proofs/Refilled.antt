@@ -1,5 +1,5 @@
 -- A signed document, read again as a template: what is filled in stands there, and its digests and signature value are the same.
-use Rattle.std.proofs.Common.{◌≡◌, ℕ, zero, suc, ◌+◌, ◌<◌, ◌≤◌, ◌&&◌, Bool, true, false, not, cond, eqb, nat_lt, Option, Some, None, Ok, List, [], ◌∷◌, ◌++◌, length, map, refl, sym, ap, subst, ◌∙◌, arith, inl, inr}
+use Rattle.std.proofs.Common.{◌≡◌, ℕ, zero, suc, ◌+◌, ◌<◌, ◌&&◌, Bool, true, false, not, cond, eqb, nat_lt, Some, None, Ok, List, [], ◌∷◌, ◌++◌, length, map, refl, sym, ap, subst, ◌∙◌, arith, inl, inr}
 use Rattle.std.specs.Prelude.{encode_utf8_all}
 use Rattle.std.specs.List.{filter, find, list_all, range_with_len}
 use Rattle.std.proofs.lemmas.Bool.{and_from, and_parts, cases_eq, false≢true}
@@ -25,14 +25,13 @@ use Rattle.transforms.specs.Outcome.{canonical_signed_info}
 use Rattle.moved_fields.specs.Follows.{Follows}
 use Rattle.moved_fields.specs.Moved.{Pairwise, moved_by, FieldsMove, ReferenceMoves}
 use Rattle.moved_fields.proofs.Moves.{fields_follow}
-use Rattle.row_fills.specs.Fillings.{AreFilledAlike, AllStand, CanFillAll, Filling, content_of, filled_again, filled_in, filling, first_of}
+use Rattle.row_fills.specs.Fillings.{AllStand, CanFillAll, Filling, content_of, filled_again, filled_in, filling, first_of}
 use Rattle.row_fills.proofs.Info.{can_front, spelled_once}
 use Rattle.row_fills.proofs.Refilled.{all_refilled, other_refilled}
 use Rattle.row_fills.proofs.Together.{all_together}
 use Rattle.signer.specs.Outcome.{has_texts, not_text}
 use Rattle.signer.specs.Signed.{digest_filling, digest_fillings, signed, unsigned, value_under}
-use Rattle.signer.proofs.Premises.{Ready}
-use Rattle.signer.proofs.Rising.{child_in, parent_is}
+use Rattle.signer.proofs.Rising.{child_in}
 use Rattle.signer.proofs.Valid.{found_named}
 
 -- ---- elements that have text alone have texts
