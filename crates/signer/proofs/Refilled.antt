@@ -110,6 +110,22 @@ pub record SignedAgain (octets : List ℕ) (rows one two : List RowOf) (x : ℕ)
   pub unsigned_same : unsigned (signed octets rows fields views (value_under one fields key)) two read views ≡ unsigned octets rows fields views
   pub signed_same : signed (signed octets rows fields views (value_under one fields key)) two read views (value_under one read key) ≡ signed octets rows fields views (value_under one fields key)
 
+-- fields that say the same give the same
+info_same : (rows : List RowOf) (fields read : Fields) → fields.canon ≡ read.canon → fields.prefixes ≡ read.prefixes → read.signed_info ≡ fields.signed_info → canonical_signed_info rows read ≡ canonical_signed_info rows fields
+info_same rows fields read canon prefixes info =
+    ap (λ i. canonical_form read.canon (map encode_utf8_all read.prefixes) rows (in_subtree rows i)) info
+    ∙ ap (λ c. canonical_form c (map encode_utf8_all read.prefixes) rows (in_subtree rows fields.signed_info)) (sym canon)
+    ∙ ap (λ l. canonical_form fields.canon (map encode_utf8_all l) rows (in_subtree rows fields.signed_info)) (sym prefixes)
+
+value_same : (rows : List RowOf) (fields read : Fields) (key : List ℕ) → fields.mac ≡ read.mac → fields.bits ≡ read.bits → canonical_signed_info rows read ≡ canonical_signed_info rows fields → value_under rows read key ≡ value_under rows fields key
+value_same rows fields read key mac bits info =
+    ap (λ o. kept (hmac_of read.mac key o) (value_bits read.mac read.bits)) info
+    ∙ ap (λ n. kept (hmac_of read.mac key (canonical_signed_info rows fields)) (value_bits read.mac n)) (sym bits)
+    ∙ ap (λ a. kept (hmac_of a key (canonical_signed_info rows fields)) (value_bits a fields.bits)) (sym mac)
+
+long_same : (fields read : Fields) → fields.mac ≡ read.mac → fields.bits ≡ read.bits → is_long_enough fields.mac (value_bits fields.mac fields.bits) ≡ true → is_long_enough read.mac (value_bits read.mac read.bits) ≡ true
+long_same fields read mac bits enough = ap (λ a. is_long_enough a (value_bits a read.bits)) (sym mac) ∙ ap (λ n. is_long_enough fields.mac (value_bits fields.mac n)) (sym bits) ∙ enough
+
 count_same : {A B : Type 0} (R : A → B → Type 0) (xs : List A) (ys : List B) → Pairwise R xs ys → length ys ≡ length xs
 count_same R [] [] p = refl
 count_same R [] (y ∷ ys) p = absurd p
@@ -145,15 +161,7 @@ module _ (octets : List ℕ) (rows one two : List RowOf) (index x : ℕ) (fields
       (fields_follow (moved_by b.number b.kept) content rows b.others x (b.number x) b.stands (at_x.0, refl) (found_named rows index x found)) in
       let read = m.0 in
       let f = m.2 in
-      let moves = moved_by b.number b.kept in
-      let info : canonical_signed_info one read ≡ canonical_signed_info one fields =
-      ap (λ i. canonical_form read.canon (map encode_utf8_all read.prefixes) one (in_subtree one i)) (f.signed_info.1 ∙ at_e.1)
-      ∙ ap (λ c. canonical_form c (map encode_utf8_all read.prefixes) one (in_subtree one e)) (sym f.canon)
-      ∙ ap (λ l. canonical_form fields.canon (map encode_utf8_all l) one (in_subtree one e)) (sym f.prefixes) in
-      let value_same : value_under one read key ≡ value =
-      ap (λ o. kept (hmac_of read.mac key o) (value_bits read.mac read.bits)) info
-      ∙ ap (λ n. kept (hmac_of read.mac key (canonical_signed_info one fields)) (value_bits read.mac n)) (sym f.bits)
-      ∙ ap (λ a. kept (hmac_of a key (canonical_signed_info one fields)) (value_bits a fields.bits)) (sym f.mac) in
+      let info = info_same one fields read f.canon f.prefixes (f.signed_info.1 ∙ at_e.1) in
       let again : (t o : List ℕ) → digest_fillings read.references views ++ filling read.value_row t o ∷ [] ≡ filled_again b.number (digests ++ filling row t o ∷ []) = λ t o.
       sym (fillings_again b.number b.kept content fields.references read.references views row read.value_row t o f.references f.value_row.1) in
       subst (λ t. SignedAgain octets rows one t x fields views key) (sym is_two)
@@ -161,12 +169,12 @@ module _ (octets : List ℕ) (rows one two : List RowOf) (index x : ℕ) (fields
         read = read;
         fields_are = ap (fields_of b.others) (sym at_x.1) ∙ m.1;
         key_name = f.key_name;
-        count = count_same (ReferenceMoves moves content) fields.references read.references f.references;
-        long = ap (λ a. is_long_enough a (value_bits a read.bits)) (sym f.mac) ∙ ap (λ n. is_long_enough fields.mac (value_bits fields.mac n)) (sym f.bits) ∙ enough;
+        count = count_same (ReferenceMoves (moved_by b.number b.kept) content) fields.references read.references f.references;
+        long = long_same fields read f.mac f.bits enough;
         texts = none_other b.others (read_rows made b.others b.spells).shape made b.number b.kept content (first_of digests row) fields.references read.references views row read.value_row (base64_of value) value
             f.references count f.value_row.1 b.texts;
         info = info;
         unsigned_same = ap (filled_in made b.others) (again [] []) ∙ other_refilled octets rows (first_of digests row) digests row [] [] (base64_of value) value pair;
-        signed_same = ap (λ v. signed made b.others read views v) value_same ∙ ap (filled_in made b.others) (again (base64_of value) value)
+        signed_same = ap (λ v. signed made b.others read views v) (value_same one fields read key f.mac f.bits info) ∙ ap (filled_in made b.others) (again (base64_of value) value)
             ∙ all_refilled made b.others b.number (first_of digests row) (digests ++ filling row (base64_of value) value ∷ []) b.texts;
       })
