@@ -35,12 +35,15 @@ no_inner Text e = refl
 no_inner Comment e = refl
 no_inner Instruction e = refl
 
+pub renumbered_behind : (old new k : ℕ) → old ≤ k → renumbered old new k ≡ (k + new) - old
+renumbered_behind old new k le = ap (λ b. if b then k else (k + new) - old) (le-ltb k old le)
+
 module _ (octets : List ℕ) (rows : List RowOf) (i : ℕ) (w : List ℕ) (r : IsRefilled octets rows i w) (shape : IsWellShaped rows) (shape' : IsWellShaped r.others) where
   pub stays : (k : ℕ) → k < r.old → renumbered r.old r.new k ≡ k
   stays k lt = ap (λ b. if b then k else (k + r.new) - r.old) (lt-ltb k r.old lt)
 
   pub moves : (k : ℕ) → r.old ≤ k → renumbered r.old r.new k ≡ (k + r.new) - r.old
-  moves k le = ap (λ b. if b then k else (k + r.new) - r.old) (le-ltb k r.old le)
+  moves k le = renumbered_behind r.old r.new k le
 
   pub longer : r.below ≤ r.new
   longer = let grows = r.grows in omega arith

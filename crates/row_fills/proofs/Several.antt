@@ -20,8 +20,9 @@ use Rattle.dsig_fields.specs.Simple.{simple_octets}
 use Rattle.dsig_fields.specs.declared.names.ElementName.TheVariants.{DigestValue, SignatureValue}
 use Rattle.moved_fields.specs.Moved.{Pairwise, is_value, moved_by, StandsFor}
 use Rattle.moved_fields.proofs.Children.{named_same}
-use Rattle.row_fills.specs.Fillings.{Filling, filled_in, content_of, CanFill, CanFillAll, AreFilled}
+use Rattle.row_fills.specs.Fillings.{Filling, filled_in, content_of, CanFill, CanFillAll, AreFilled, AllStand, Stands}
 use Rattle.row_fills.proofs.One as one
+use Rattle.row_fills.proofs.Texts.{stands_behind, own_stands, later_stand}
 
 pairs_then : {A B C : Type 0} (R : A → B → Type 0) (S : B → C → Type 0) (T : A → C → Type 0) → ((a : A) (b : B) (c : C) → R a b → S b c → T a c)
     → (xs : List A) (ys : List B) (zs : List C) → Pairwise R xs ys → Pairwise S ys zs → Pairwise T xs zs
@@ -101,6 +102,7 @@ pub record Past (octets : List ℕ) (rows : List RowOf) (first : ℕ) (fs : List
   pub within : first ≤ length others
   pub nodes : (k : ℕ) → k < first → IsSameNode (row_at rows k) (row_at others k)
   pub ended : (k : ℕ) → k < first → (row_at rows k).last < first → row_at others k ≡ row_at rows k
+  pub texts : AllStand (filled_in octets rows fs) others number first fs
 
 abbrev pub nothing_filled : (octets : List ℕ) (rows : List RowOf) → Spells octets rows → Past octets rows (length rows) []
 nothing_filled octets rows spells = record {
@@ -117,6 +119,7 @@ nothing_filled octets rows spells = record {
   within = omega arith;
   nodes = λ k lt. record { kind = refl; parent = refl; prefix_text = refl; local_name = refl; uri = refl; value = refl };
   ended = λ k lt ends. refl;
+  texts = tt;
 }
 
 abbrev pub passed : (octets : List ℕ) (rows : List RowOf) (first : ℕ) (fs : List Filling) → AreFilled octets rows first fs → Past octets rows first fs
@@ -134,6 +137,7 @@ passed octets rows first fs a = record {
   within = let there = a.begins.there_too in omega arith;
   nodes = a.begins.same;
   ended = a.ended;
+  texts = a.texts;
 }
 
 module _ (octets : List ℕ) (rows : List RowOf) (shape : IsWellShaped rows) (first : ℕ) (fs : List Filling) (a : Past octets rows first fs) (f : Filling) (can : CanFill rows f) (less : f.row < first) (ends : (row_at rows f.row).last < first) where
@@ -233,6 +237,16 @@ module _ (octets : List ℕ) (rows : List RowOf) (shape : IsWellShaped rows) (fi
             | inr later ↦ let up = shape.nesting.parent_before k (omega (arith, later)) (omega (arith, lt, there)) in omega arith
           ]
 
+  -- the texts that stood there, and this one
+  texts_stand : AllStand (refilled (filled_in octets rows fs) (row_at a.others i) f.text) r.others (λ x. g (a.number x)) i (f ∷ fs)
+  texts_stand =
+      let still : g (a.number i) ≡ i = ap g (a.front i less).1 ∙ low i (omega (arith, in_front i (omega arith), r.starts)) in (
+        omega (arith, still),
+        subst (λ n. Stands (refilled (filled_in octets rows fs) (row_at a.others i) f.text) r.others n f.text) (sym still) (own_stands (filled_in octets rows fs) a.others i f.text a.spells alone' r),
+        later_stand (filled_in octets rows fs) a.others i f.text a.spells alone' r a.number first (g (a.number i) + 1) fs less
+            (λ k le far. let goes = high k far in omega (arith, still, goes, far, r.inside, r.grows)) a.texts,
+      )
+
   filled : AreFilled octets rows f.row (f ∷ fs)
   filled = record {
     others = r.others;
@@ -264,6 +278,7 @@ module _ (octets : List ℕ) (rows : List RowOf) (shape : IsWellShaped rows) (fi
     ended = λ k lt stops.
         let still = a.ended k (omega (arith, lt, less)) (omega (arith, stops, less)) in
         r.same k lt (omega (arith, stops, ap (λ (t : RowOf). t.last) still)) ∙ still;
+    texts = subst (λ t. AllStand (refilled (filled_in octets rows fs) t f.text) r.others (λ x. g (a.number x)) i (f ∷ fs)) row_same texts_stand;
   }
     where
       past : (k : ℕ) → a.kept k ≡ true → i ≤ k → i ≤ a.number k
@@ -285,19 +300,13 @@ module _ (octets : List ℕ) (rows : List RowOf) (shape : IsWellShaped rows) (fi
     pub rows_are : all.others ≡ refilled.others
     pub numbers : (k : ℕ) → all.number k ≡ renumbered refilled.old refilled.new (a.number k)
     pub row_is : row_at a.others f.row ≡ row_at rows f.row
+    pub alone : HasTextAlone a.others f.row
     pub one_shape : IsWellShaped a.others
     pub other_shape : IsWellShaped refilled.others
 
   pub step : Step
   unfolding filled
-  step = record { all = filled; refilled = r; rows_are = refl; numbers = λ k. refl; row_is = row_same; one_shape = shape'; other_shape = shape'' }
-
--- an element stands behind a text that stands alone
-pub stands_behind : (rows : List RowOf) (i j : ℕ) → HasTextAlone rows i → i < j → (row_at rows j).kind ≡ Element → (row_at rows i).last < j
-stands_behind rows i j alone lt e = elim (cases_lt (row_at rows i).last j) [
-  | inl before ↦ before
-  | inr inside ↦ absurd (false≢true (sym (ap is_plain_kind e) ∙ alone.alone j lt inside))
-]
+  step = record { all = filled; refilled = r; rows_are = refl; numbers = λ k. refl; row_is = row_same; alone = alone'; one_shape = shape'; other_shape = shape'' }
 
 -- the last one
 pub last_step : (octets : List ℕ) (rows : List RowOf) (spells : Spells octets rows) (f : Filling) (can : CanFill rows f)

@@ -13,9 +13,13 @@ use Rattle.row_spans.specs.Alike.{renumbered, IsAlike, IsTextOf, IsRefilled}
 use Rattle.xml_read.specs.Spelled.{Spells}
 use Rattle.row_spans.proofs.Read.{read_rows}
 use Rattle.canon_local.specs.Begin.{IsSameNode, BeginAlike}
-use Rattle.row_fills.specs.Fillings.{Filling, CanFill, CanFillAll, EndTogether, AreFilledAlike, first_of, filling, filled_in}
+use Rattle.row_spans.proofs.Within.{within_at}
+use Rattle.row_spans.specs.RowSpans.{refilled}
+use Rattle.row_spans.specs.TextAlone.{HasTextAlone}
+use Rattle.row_fills.specs.Fillings.{Filling, CanFill, CanFillAll, EndTogether, AllStand, AreFilledAlike, Stands, first_of, filling, filled_in}
 use Rattle.row_fills.proofs.Lasts as lasts
-use Rattle.row_fills.proofs.Several.{passed, step, last_step, stands_behind}
+use Rattle.row_fills.proofs.Several.{passed, step, last_step}
+use Rattle.row_fills.proofs.Texts.{back_of, front_long, front_of, later, refilled_parts, stands_behind}
 
 abbrev pub EndAlike : ℕ → List RowOf → List RowOf → Type 0
 EndAlike m rows others = (k : ℕ) → k < m → EndTogether m (row_at rows k).last (row_at others k).last
@@ -283,6 +287,10 @@ module _ (octets : List ℕ) (rows : List RowOf) (i : ℕ) (w w' : List ℕ) (r 
     | inr in_it ↦ inr (late w r now k lt in_it, late w' r' now' k lt in_it)
   ]
 
+pub last_stands : (octets : List ℕ) (rows : List RowOf) (number : ℕ → ℕ) (from : ℕ) (fs : List Filling) (w : Filling) → AllStand octets rows number from (fs ++ w ∷ []) → Stands octets rows (number w.row) w.text
+last_stands octets rows number from [] w all = all.1
+last_stands octets rows number from (g ∷ fs) w all = last_stands octets rows number (number g.row + 1) fs w all.2
+
 -- the last one, with either text
 last_pair : (octets : List ℕ) (rows : List RowOf) (spells : Spells octets rows) (row : ℕ) (t o t' o' : List ℕ) → CanFill rows (filling row t o) → CanFill rows (filling row t' o')
     → AreFilledAlike octets rows row [] (filling row t o) (filling row t' o')
@@ -300,6 +308,11 @@ last_pair octets rows spells row t o t' o' can can' =
       in_other = b.numbers row ∙ lasts.stays octets rows row t' b.refilled shape b.other_shape row (omega (arith, b.refilled.inside, b.refilled.starts));
       begins = same_nodes_then row rows a.all.others b.all.others a.all.begins b.all.begins;
       ends = subst (λ x. EndAlike row x b.all.others) (sym a.rows_are) (subst (λ y. EndAlike row a.refilled.others y) (sym b.rows_are) ends);
+      ahead = front_of octets (row_at rows row);
+      back = back_of octets (row_at rows row);
+      one_parts = refilled_parts octets (row_at rows row) t;
+      other_parts = refilled_parts octets (row_at rows row) t';
+      text_from = ap (λ os. (row_at os row).body_from) b.rows_are ∙ ap (λ (s : RowOf). s.body_from) b.refilled.row ∙ sym (front_long octets (row_at rows row) (within_at octets rows row spells can.alone.within).0);
     }
 
 more_pair : (octets : List ℕ) (rows : List RowOf) (spells : Spells octets rows) (f : Filling) (first : ℕ) (fs : List Filling) (row : ℕ) (t o t' o' : List ℕ)
@@ -322,6 +335,10 @@ more_pair octets rows spells f first fs row t o t' o' p can less stops =
     let numbers = numbers_same one two p.one.others p.other.others f.row f.text a.refilled b.refilled a.one_shape b.one_shape a.other_shape b.other_shape p.mark p.begins p.ends before stopped same in
     let mark : ℕ = renumbered a.refilled.old a.refilled.new p.mark in
     let goes = lasts.moves one p.one.others f.row f.text a.refilled a.one_shape a.other_shape p.mark (omega (arith, stopped, a.refilled.ends)) in
+    let at_mark : HasTextAlone p.other.others p.mark = subst (λ n. HasTextAlone p.other.others n) p.in_other (last_stands two p.other.others p.other.number first fs w p.other.texts).alone in
+    let l = later two p.other.others f.row f.text p.other.spells b.alone b.refilled p.mark p.ahead before at_mark p.text_from in
+    let parts : (rest : List ℕ) → refilled (p.ahead ++ rest) (row_at rows f.row) f.text ≡ refilled p.ahead (row_at rows f.row) f.text ++ rest = λ rest.
+    subst (λ s. refilled (p.ahead ++ rest) s f.text ≡ refilled p.ahead s f.text ++ rest) b.row_is (l.parts rest) in
     record {
       one = a.all;
       other = b.all;
@@ -331,6 +348,11 @@ more_pair octets rows spells f first fs row t o t' o' p can less stops =
       in_other = b.numbers row ∙ ap (renumbered b.refilled.old b.refilled.new) p.in_other ∙ numbers p.mark;
       begins = subst (λ x. BeginAlike mark x b.all.others) (sym a.rows_are) (subst (λ y. BeginAlike mark a.refilled.others y) (sym b.rows_are) begins);
       ends = subst (λ x. EndAlike mark x b.all.others) (sym a.rows_are) (subst (λ y. EndAlike mark a.refilled.others y) (sym b.rows_are) ends);
+      ahead = refilled p.ahead (row_at rows f.row) f.text;
+      back = p.back;
+      one_parts = ap (λ o. refilled o (row_at rows f.row) f.text) p.one_parts ∙ parts (t ++ p.back);
+      other_parts = ap (λ o. refilled o (row_at rows f.row) f.text) p.other_parts ∙ parts (t' ++ p.back);
+      text_from = ap (λ os. (row_at os mark).body_from) b.rows_are ∙ ap (λ n. (row_at b.refilled.others n).body_from) (sym (numbers p.mark)) ∙ l.begins ∙ ap (λ s. length (refilled p.ahead s f.text)) b.row_is;
     }
 
 first_less : (rows : List RowOf) (i : ℕ) (fs : List Filling) (row : ℕ) (t o : List ℕ) → CanFillAll rows (i + 1) (fs ++ filling row t o ∷ []) → i < first_of fs row

@@ -1,5 +1,5 @@
 -- Several elements of a document, each of which gets another text as its content.
-use Rattle.std.specs.Prelude.{◌≡◌, ◌⊎◌, ℕ, ◌+◌, ◌<◌, ◌≤◌, ◌==◌, Bool, true, List, [], ◌∷◌, ◌++◌, length, Some, if◌then◌else◌}
+use Rattle.std.specs.Prelude.{◌≡◌, ◌⊎◌, ℕ, ◌+◌, ◌<◌, ◌≤◌, ◌==◌, Bool, true, false, List, [], ◌∷◌, ◌++◌, length, Some, if◌then◌else◌}
 use Rattle.dsig_base64.specs.Loose.{octets_in}
 use Rattle.xml_doc.specs.Rows.{RowOf}
 use Rattle.xml_doc.specs.Shape.{row_at}
@@ -44,8 +44,29 @@ abbrev pub CanFillAll : List RowOf → ℕ → List Filling → Type 0
 CanFillAll rows from [] = Unit {0}
 CanFillAll rows from (f ∷ fs) = (from ≤ f.row) × CanFill rows f × CanFillAll rows (f.row + 1) fs
 
+-- element k has this text alone: it lies between the offsets of its row, and the tag in front of it is a start tag
+pub record Stands (octets : List ℕ) (rows : List RowOf) (k : ℕ) (text : List ℕ) : Type 0 where
+  pub alone : HasTextAlone rows k
+  pub tagged : (row_at rows k).empty_tag ≡ false
+  pub front : List ℕ
+  pub back : List ℕ
+  pub parts : octets ≡ front ++ (text ++ back)
+  pub begins : (row_at rows k).body_from ≡ length front
+  pub ends : (row_at rows k).body_until ≡ (row_at rows k).body_from + length text
+
+-- the text of each stands in the element that has this number now, and these numbers rise from this one on
+abbrev pub AllStand : List ℕ → List RowOf → (number : ℕ → ℕ) → (from : ℕ) → List Filling → Type 0
+AllStand octets rows number from [] = Unit {0}
+AllStand octets rows number from (f ∷ fs) = (from ≤ number f.row) × Stands octets rows (number f.row) f.text
+    × AllStand octets rows number (number f.row + 1) fs
+
+-- the same texts in the elements that have these numbers now
+abbrev pub filled_again : (number : ℕ → ℕ) → List Filling → List Filling
+filled_again number [] = []
+filled_again number (f ∷ fs) = record { row = number f.row; text = f.text; octets = f.octets } ∷ filled_again number fs
+
 -- The document with all of them filled in, of which `first` is the first. Its rows stand for those of the document; those in
--- front of the first are the same nodes, and a row whose subtree ends there is the same.
+-- front of the first are the same nodes, and a row whose subtree ends there is the same. Each text stands in its element.
 pub record AreFilled (octets : List ℕ) (rows : List RowOf) (first : ℕ) (fs : List Filling) : Type 0 where
   pub others : List RowOf
   pub number : ℕ → ℕ
@@ -59,13 +80,14 @@ pub record AreFilled (octets : List ℕ) (rows : List RowOf) (first : ℕ) (fs :
   pub behind : (k : ℕ) → kept k ≡ true → first ≤ k → first ≤ number k
   pub begins : BeginAlike first rows others
   pub ended : (k : ℕ) → k < first → (row_at rows k).last < first → row_at others k ≡ row_at rows k
+  pub texts : AllStand (filled_in octets rows fs) others number first fs
 
 -- subtrees that both end with the same row in front of row m, or both don't end there
 abbrev pub EndTogether : ℕ → ℕ → ℕ → Type 0
 EndTogether m a b = ((a < m) × (b ≡ a)) ⊎ ((m ≤ a) × (m ≤ b))
 
 -- Two documents with the same texts filled in but for that of the last element, which has row `mark` in both: in front of it
--- they have the same nodes, and the subtrees end together.
+-- they have the same nodes, and the subtrees end together. Their octets are the same but for that text.
 pub record AreFilledAlike (octets : List ℕ) (rows : List RowOf) (first : ℕ) (fs : List Filling) (v w : Filling) : Type 0 where
   pub one : AreFilled octets rows first (fs ++ v ∷ [])
   pub other : AreFilled octets rows first (fs ++ w ∷ [])
@@ -75,6 +97,11 @@ pub record AreFilledAlike (octets : List ℕ) (rows : List RowOf) (first : ℕ) 
   pub in_other : other.number w.row ≡ mark
   pub begins : BeginAlike mark one.others other.others
   pub ends : (k : ℕ) → k < mark → EndTogether mark (row_at one.others k).last (row_at other.others k).last
+  pub ahead : List ℕ
+  pub back : List ℕ
+  pub one_parts : filled_in octets rows (fs ++ v ∷ []) ≡ ahead ++ (v.text ++ back)
+  pub other_parts : filled_in octets rows (fs ++ w ∷ []) ≡ ahead ++ (w.text ++ back)
+  pub text_from : (row_at other.others mark).body_from ≡ length ahead
 
 -- the row of the first one, where others stand in front of this row
 abbrev pub first_of : List Filling → ℕ → ℕ

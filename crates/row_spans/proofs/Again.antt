@@ -1,5 +1,5 @@
 -- What reading answers of a document with another text in place of an element's.
-use Rattle.std.proofs.Common.{◌≡◌, ℕ, ◌+◌, ◌-◌, ◌<◌, ◌≤◌, Bool, true, false, ◌&&◌, max, cond, List, [], ◌∷◌, ◌++◌, length, take, drop, Option, Some, None, Ok, refl, sym, ap, subst, ◌∙◌, take-append-drop}
+use Rattle.std.proofs.Common.{◌≡◌, ℕ, ◌+◌, ◌-◌, ◌<◌, ◌≤◌, Bool, true, false, ◌&&◌, max, cond, List, [], ◌∷◌, ◌++◌, length, take, drop, Option, Some, None, Ok, refl, sym, ap, subst, ◌∙◌, arith, take-append-drop}
 use Rattle.std.specs.Prelude.{is_some, option_map}
 use Rattle.std.specs.Str.{chars, is_utf8, bytes_eq}
 use Rattle.std.proofs.lemmas.Slice.Eq.{bytes_eq-Decides}
@@ -31,7 +31,7 @@ use Rattle.xml_spans.specs.Moved.{moved_events}
 use Rattle.xml_spans.specs.Spans.{opened, with_text_alone, filled_shift, filled_events, are_bare}
 use Rattle.row_spans.specs.TextAlone.{HasTextAlone}
 use Rattle.row_spans.specs.RowSpans.{refilled}
-use Rattle.row_spans.specs.Alike.{IsRefilled}
+use Rattle.row_spans.specs.Alike.{IsRefilled, IsMoved, refill_shift, renumbered}
 use Rattle.xml_read.specs.Spelled.{Spells}
 use Rattle.xml_read.specs.SpelledTree.{characters_of}
 use Rattle.xml_syntax.specs.Grammar.{SpellsDocument}
@@ -39,8 +39,9 @@ use Rattle.xml_syntax.specs.Outcome.{names_other_encoding}
 use Rattle.xml_syntax.proofs.Documents.{document_sound}
 use Rattle.xml_doc.specs.Shape.{row_at}
 use Rattle.row_spans.proofs.Read.{ReadRows, read_rows}
-use Rattle.row_spans.proofs.Places.{Placed as PlacedRow, place_of_row, fills_at, root_or_more}
-use Rattle.row_spans.proofs.Filled.{below, old, new, new_rows}
+use Rattle.row_spans.proofs.Places.{Placed as PlacedRow, place_of_row, content_same, fills_at, root_or_more}
+use Rattle.row_spans.proofs.Filled.{below, old, new, NewRows, new_rows}
+use Rattle.row_spans.proofs.Behind.{alone_again, alone_later, moves_with}
 
 -- ---- names
 
@@ -152,8 +153,33 @@ module _ (octets : List ℕ) (rows : List RowOf) (i : ℕ) (some : 0 < i) (r : R
   abbrev made : List ℕ
   made = refilled octets (row_at rows i) w
 
-  pub reads_again : IsRefilled octets rows i w
-  reads_again =
+  -- what is behind the tag's content is behind that of the row
+  shift_same : (at : ℕ) → filled_shift p.made.tag p.until w at ≡ refill_shift (row_at rows i) w at
+  shift_same at =
+      let ends = ap (λ (t : RowOf). t.body_until) p.row_is in
+      let begins = ap (λ (t : RowOf). t.body_from) p.row_is in
+      let long = ap length (content_same octets rows i r p w) in
+      omega (arith, ends, begins, long)
+
+  moved_same : (k j : ℕ) (others : List RowOf) → IsMoved (filled_shift p.made.tag p.until w) (row_at rows k) (row_at others j) → IsMoved (refill_shift (row_at rows i) w) (row_at rows k) (row_at others j)
+  moved_same k j others m = record {
+    tag_from = m.tag_from ∙ shift_same (row_at rows k).tag_from;
+    body_from = m.body_from ∙ shift_same (row_at rows k).body_from;
+    body_until = m.body_until ∙ shift_same (row_at rows k).body_until;
+    empty_tag = m.empty_tag;
+  }
+
+  -- elements that have text alone have it still
+  still_alone : (n : NewRows octets rows i some r p w) → HasTextAlone (closed n.made 0 0) i
+  still_alone n =
+      alone_again rows (closed n.made 0 0) (below octets rows i some r p w) (old octets rows i some r p w) (new octets rows i some r p w) n.alike n.starts (omega (arith, n.grows)) i w (ap (λ (t : RowOf). t.kind) p.row_is) n.inside n.grows
+      n.stands (ap (λ (t : RowOf). t.last) n.row) n.own
+
+  later_alone : (n : NewRows octets rows i some r p w) (k : ℕ) → old octets rows i some r p w ≤ k → HasTextAlone rows k → HasTextAlone (closed n.made 0 0) (renumbered (old octets rows i some r p w) (new octets rows i some r p w) k)
+  later_alone n = alone_later rows (closed n.made 0 0) (below octets rows i some r p w) (old octets rows i some r p w) (new octets rows i some r p w) n.alike n.starts (omega (arith, n.grows)) r.shape (omega (arith, n.inside))
+
+  pub reads_again : Spells octets rows → IsRefilled octets rows i w
+  reads_again spelled =
       let at = mark_length octets in
       let f = fills_at octets rows i r p w bare in
       let told = p.made.before ++ filled_events p.made.tag p.until w p.after in
@@ -175,22 +201,23 @@ module _ (octets : List ℕ) (rows : List RowOf) (i : ℕ) (some : 0 < i) (r : R
       let others = closed n.made 0 0 in
       let rows_are : rows_of resolved.0 ≡ others =
       sym (some_is others (rows_of resolved.0) (ap (option_map (λ (all : List RowOf). closed all 0 0)) (sym (ap (built no_stack (root_row 0 ∷ [])) (sym t.are) ∙ n.are)) ∙ all_built t.tree resolved.0 resolved.1)) in
+      let spells : Spells made others = record {
+        tree = t.tree;
+        resolved = resolved.0;
+        spells = record {
+          encoding = record { utf8 = ap is_utf8 text_is ∙ f.2.0; no_other = none_named (characters_of made) (ap names_other_encoding xs_are ∙ t.encoding) };
+          spelled = subst (λ (u : List Placed). SpellsDocument u t.tree) (sym xs_are) (document_sound xs t.tree t.read);
+        };
+        resolves = resolved.1;
+        shallow = subst (λ (n : ℕ). n ≤ depth_limit) (sym deep) r.shallow;
+        rows_are = sym rows_are;
+      } in
       record {
         others = others;
         below = below octets rows i some r p w;
         old = old octets rows i some r p w;
         new = new octets rows i some r p w;
-        spells = record {
-          tree = t.tree;
-          resolved = resolved.0;
-          spells = record {
-            encoding = record { utf8 = ap is_utf8 text_is ∙ f.2.0; no_other = none_named (characters_of made) (ap names_other_encoding xs_are ∙ t.encoding) };
-            spelled = subst (λ (u : List Placed). SpellsDocument u t.tree) (sym xs_are) (document_sound xs t.tree t.read);
-          };
-          resolves = resolved.1;
-          shallow = subst (λ (n : ℕ). n ≤ depth_limit) (sym deep) r.shallow;
-          rows_are = sym rows_are;
-        };
+        spells = spells;
         alike = n.alike;
         inside = n.inside;
         ends = n.ends;
@@ -201,9 +228,15 @@ module _ (octets : List ℕ) (rows : List RowOf) (i : ℕ) (some : 0 < i) (r : R
         same = n.same;
         stood = n.stood;
         own = n.own;
+        alone = still_alone n;
+        alone_behind = later_alone n;
+        moved = λ k from here.
+            let there = later_alone n k from here in
+            moved_same k (renumbered (old octets rows i some r p w) (new octets rows i some r p w) k) others
+            (moves_with (filled_shift p.made.tag p.until w) octets made rows others k (renumbered (old octets rows i some r p w) (new octets rows i some r p w) k) spelled spells here there (n.carried k from here.within));
       }
 
 pub again : (octets : List ℕ) (rows : List RowOf) (i : ℕ) (w : List ℕ) → Spells octets rows → HasTextAlone rows i → are_bare w ≡ true → IsRefilled octets rows i w
 again octets rows i w e alone bare =
     let r = read_rows octets rows e in
-    reads_again octets rows i (root_or_more i rows r.shape alone) r (place_of_row octets rows i r alone) w bare
+    reads_again octets rows i (root_or_more i rows r.shape alone) r (place_of_row octets rows i r alone) w bare e

@@ -9,7 +9,7 @@ use Rattle.xml_doc.specs.declared.row.Kind.{Kind}
 use Rattle.xml_doc.specs.declared.row.Kind.TheVariants as kinds
 use Rattle.row_spans.specs.TextAlone.{is_plain_kind, HasTextAlone}
 
-field_plain : (kind : Kind) → is_field kind ≡ true → is_plain_kind kind ≡ true
+pub field_plain : (kind : Kind) → is_field kind ≡ true → is_plain_kind kind ≡ true
 field_plain kinds.Root e = absurd (false≢true e)
 field_plain kinds.Element e = absurd (false≢true e)
 field_plain kinds.Namespace e = refl

@@ -4,8 +4,10 @@ use Rattle.xml_doc.specs.Kinds.{is_field}
 use Rattle.xml_doc.specs.Rows.{RowOf}
 use Rattle.xml_doc.specs.Shape.{row_at}
 use Rattle.xml_doc.specs.declared.row.Kind.TheVariants.{Text}
-use Rattle.xml_spans.specs.Spans.{body_of}
-use Rattle.row_spans.specs.RowSpans.{refilled}
+use Rattle.xml_spans.specs.Moved.{shift}
+use Rattle.xml_spans.specs.Spans.{body_of, content_with}
+use Rattle.row_spans.specs.RowSpans.{refilled, written_name}
+use Rattle.row_spans.specs.TextAlone.{HasTextAlone}
 use Rattle.xml_read.specs.Spelled.{Spells}
 
 -- a row's number, where the first `old` rows became `new` rows
@@ -44,6 +46,17 @@ filled_row r new w = record r {
   empty_tag = false;
 }
 
+-- the offset of what stood at an offset behind the element with this row, where this text is its content
+abbrev pub refill_shift : RowOf → List ℕ → ℕ → ℕ
+refill_shift r w = shift r.body_until (r.body_from + length (content_with r.empty_tag (written_name r) w))
+
+-- The offsets of an element are those of the other one, moved; its tag is an empty-element tag where that one is.
+pub record IsMoved (g : ℕ → ℕ) (r s : RowOf) : Type 0 where
+  pub tag_from : s.tag_from ≡ g r.tag_from
+  pub body_from : s.body_from ≡ g r.body_from
+  pub body_until : s.body_until ≡ g r.body_until
+  pub empty_tag : s.empty_tag ≡ r.empty_tag
+
 -- row k is a text below row i
 pub record IsTextBelow (rows : List RowOf) (k i : ℕ) : Type 0 where
   pub kind : (row_at rows k).kind ≡ Text
@@ -56,8 +69,9 @@ pub record IsTextOf (rows : List RowOf) (k i : ℕ) (w : List ℕ) : Type 0 wher
   pub value : (row_at rows k).value ≡ w
 
 -- The octets with this text as the content of element i spell a document. Its rows are alike, and that text stands below the
--- element. A row whose subtree ends in front of the element is the same, offsets included, and only texts of the
--- element are gone. Its namespaces and attributes stand in front of row `below`.
+-- element, and alone. A row whose subtree ends in front of the element is the same, offsets included, and only texts of the
+-- element are gone. Its namespaces and attributes stand in front of row `below`. A later element that has text alone has it
+-- still, and its offsets move as those behind the element do.
 pub record IsRefilled (octets : List ℕ) (rows : List RowOf) (i : ℕ) (w : List ℕ) : Type 0 where
   pub others : List RowOf
   pub below : ℕ
@@ -74,3 +88,7 @@ pub record IsRefilled (octets : List ℕ) (rows : List RowOf) (i : ℕ) (w : Lis
   pub same : (k : ℕ) → k < i → (row_at rows k).last < i → row_at others k ≡ row_at rows k
   pub stood : (k : ℕ) → below ≤ k → k < old → IsTextBelow rows k i
   pub own : (k : ℕ) → i < k → k < below → is_field (row_at rows k).kind ≡ true
+  pub alone : HasTextAlone others i
+  pub alone_behind : (k : ℕ) → old ≤ k → HasTextAlone rows k → HasTextAlone others (renumbered old new k)
+  pub moved : (k : ℕ) → old ≤ k → HasTextAlone rows k
+      → IsMoved (refill_shift (row_at rows i) w) (row_at rows k) (row_at others (renumbered old new k))

@@ -22,7 +22,8 @@ pub fn contents_lie_in_order()
 {}
 
 /// Where an element has text alone, the octets with another text as its content spell a document too, whose rows are the
-/// same but for that text, their numbers and their offsets.
+/// same but for that text, their numbers and their offsets. Later elements that have text alone have it still, and their offsets
+/// move by what the octets grew.
 pub fn a_text_is_read_again()
     ensures { (octets : List ℕ) (rows : List RowOf) (i : ℕ) (w : List ℕ) → Spells octets rows → HasTextAlone rows i → are_bare w ≡ true
         → IsRefilled octets rows i w }

@@ -4,3 +4,5 @@ pub mod Bare
 pub mod Octets
 pub mod Premises
 pub mod Made
+pub mod Refilled
+pub mod Again

@@ -107,14 +107,14 @@ behind_by sources total number r rs view others e f =
     ∙ ap (λ (n : Result (List (List ℕ)) ValidateRefusal). and_then n (λ vs. Ok (view ∷ vs))) f
 
 -- the first view, and the others
-record Parts (sources : Sources) (total number : ℕ) (r : Reference) (rs : List Reference) (views : List (List ℕ)) : Type 0 where
-  view : List ℕ
-  others : List (List ℕ)
-  first : next_view sources total r ≡ Ok view
-  rest : views_from sources (total + length view) (number + 1) rs ≡ Ok others
-  are : views ≡ view ∷ others
+pub record Parts (sources : Sources) (total number : ℕ) (r : Reference) (rs : List Reference) (views : List (List ℕ)) : Type 0 where
+  pub view : List ℕ
+  pub others : List (List ℕ)
+  pub first : next_view sources total r ≡ Ok view
+  pub rest : views_from sources (total + length view) (number + 1) rs ≡ Ok others
+  pub are : views ≡ view ∷ others
 
-parts : (sources : Sources) (total number : ℕ) (r : Reference) (rs : List Reference) (views : List (List ℕ)) → views_from sources total number (r ∷ rs) ≡ Ok views → Parts sources total number r rs views
+pub parts : (sources : Sources) (total number : ℕ) (r : Reference) (rs : List Reference) (views : List (List ℕ)) → views_from sources total number (r ∷ rs) ≡ Ok views → Parts sources total number r rs views
 unfolding views_from
 parts sources total number r rs views e =
     let a = given_past (refusal.Reference number) (next_view sources total r) (λ v. and_then (views_from sources (total + length v) (number + 1) rs) (λ vs. Ok (v ∷ vs))) views e in
@@ -124,7 +124,7 @@ parts sources total number r rs views e =
     list_is : (xs ys : List (List ℕ)) → ◌≡◌ {A = Result (List (List ℕ)) SignRefusal} (Ok xs) (Ok ys) → xs ≡ ys
     list_is xs ys k = cc
 
-none_are : (sources : Sources) (total number : ℕ) (views : List (List ℕ)) → views_from sources total number [] ≡ Ok views → views ≡ []
+pub none_are : (sources : Sources) (total number : ℕ) (views : List (List ℕ)) → views_from sources total number [] ≡ Ok views → views ≡ []
 unfolding views_from
 none_are sources total number views e = let same : [] ≡ views = cc in sym same
 
@@ -135,14 +135,14 @@ had sources total number (r ∷ rs) views e =
     let p = parts sources total number r rs views e in
     behind_by sources total number r rs p.view p.others p.first (had sources (total + length p.view) (number + 1) rs p.others p.rest) ∙ ap Ok (sym p.are)
 
-counted : (sources : Sources) (total number : ℕ) (rs : List Reference) (views : List (List ℕ)) → views_from sources total number rs ≡ Ok views → length views ≡ length rs
+pub counted : (sources : Sources) (total number : ℕ) (rs : List Reference) (views : List (List ℕ)) → views_from sources total number rs ≡ Ok views → length views ≡ length rs
 counted sources total number [] views e = ap length (none_are sources total number views e)
 counted sources total number (r ∷ rs) views e =
     let p = parts sources total number r rs views e in
     ap length p.are ∙ ap suc (counted sources (total + length p.view) (number + 1) rs p.others p.rest)
 
 -- ---- and those of the signed document, where none has changed
-is_had : (r : Result (List ℕ) RefRefusal) (view : List ℕ) → is_view r view ≡ true → r ≡ Ok view
+pub is_had : (r : Result (List ℕ) RefRefusal) (view : List ℕ) → is_view r view ≡ true → r ≡ Ok view
 is_had (Ok other) view e = ap Ok ((bytes_eq-Decides other view).0 e)
 is_had (Err cause) view e = absurd (false≢true e)
 
@@ -155,7 +155,7 @@ within total number view other e = go (nat_le (total + length view) total_limit)
     go false is f = absurd cc
 
 module _ (sources now : Sources) where
-  next_same : (total : ℕ) (r s : Reference) (view : List ℕ) → next_view sources total r ≡ Ok view → view_of (origin_of now.rows (Some now.signature)) now.place now.files s ≡ Ok view → next_view now total s ≡ Ok view
+  pub next_same : (total : ℕ) (r s : Reference) (view : List ℕ) → next_view sources total r ≡ Ok view → view_of (origin_of now.rows (Some now.signature)) now.place now.files s ≡ Ok view → next_view now total s ≡ Ok view
   unfolding next_view
   next_same total r s view e f =
       let a = given (view_of (origin_of sources.rows (Some sources.signature)) sources.place sources.files r) (within_total total (last_step r)) view e in
@@ -163,7 +163,7 @@ module _ (sources now : Sources) where
       ap (λ (n : Result (List ℕ) RefRefusal). and_then n (within_total total (last_step s))) f
       ∙ ap (λ b. if b then Ok view else Err (reason.OctetsTooLong (last_step s))) (ap (λ v. nat_le (total + length v) total_limit) (sym w.1) ∙ w.0)
 
-  tested : (number : ℕ) (s : Reference) (ss : List Reference) (view : List ℕ) (others : List (List ℕ)) → first_changed now number (s ∷ ss) (view ∷ others) ≡ None
+  pub tested : (number : ℕ) (s : Reference) (ss : List Reference) (view : List ℕ) (others : List (List ℕ)) → first_changed now number (s ∷ ss) (view ∷ others) ≡ None
       → (is_view (view_of (origin_of now.rows (Some now.signature)) now.place now.files s) view ≡ true) × (first_changed now (number + 1) ss others ≡ None)
   unfolding first_changed
   tested number s ss view others f = go (is_view (view_of (origin_of now.rows (Some now.signature)) now.place now.files s) view) refl f
@@ -216,7 +216,7 @@ verdict_is sources keep fields key views short are both =
     ∙ ap (λ (n : Result (List (List ℕ)) ValidateRefusal). and_then n (λ vs. Ok (report_by keep vs (differing 1 fields.references vs)))) are
     ∙ ap (λ d. Ok (report_by keep views d)) (none_differs 1 fields.references views h.1)
 
-abbrev sources_at : List RowOf → ℕ → QuestionOf → Held → Sources
+abbrev pub sources_at : List RowOf → ℕ → QuestionOf → Held → Sources
 sources_at rows x question files = record { rows = rows; signature = x; place = question.place; files = files }
 
 outcome_is : (rows : List RowOf) (question : QuestionOf) (files : Held) (x : ℕ) (fields : Fields) (key : KeyEntry) (reported : Report) → nth_signature rows question.index ≡ Some x → fields_of rows x ≡ Ok fields
@@ -233,14 +233,14 @@ outcome_is rows question files x fields key reported found is chosen e =
 
 -- ---- the steps of signing
 -- what is known where the template is filled in
-record Filled (octets : List ℕ) (sources : Sources) (fields : Fields) (key : List ℕ) (views : List (List ℕ)) (made : List ℕ) : Type 0 where
-  one : List RowOf
-  two : List RowOf
-  read_one : read_outcome (unsigned octets sources.rows fields views) ≡ Ok one
-  read_two : read_outcome made ≡ Ok two
-  made_is : made ≡ signed octets sources.rows fields views (value_under one fields key)
-  short : nat_le (length (canonical_signed_info one fields)) octet_limit ≡ true
-  same : first_changed (within_rows sources two) 1 (references_of (fields_of two sources.signature)) views ≡ None
+pub record Filled (octets : List ℕ) (sources : Sources) (fields : Fields) (key : List ℕ) (views : List (List ℕ)) (made : List ℕ) : Type 0 where
+  pub one : List RowOf
+  pub two : List RowOf
+  pub read_one : read_outcome (unsigned octets sources.rows fields views) ≡ Ok one
+  pub read_two : read_outcome made ≡ Ok two
+  pub made_is : made ≡ signed octets sources.rows fields views (value_under one fields key)
+  pub short : nat_le (length (canonical_signed_info one fields)) octet_limit ≡ true
+  pub same : first_changed (within_rows sources two) 1 (references_of (fields_of two sources.signature)) views ≡ None
 
 filled : (octets : List ℕ) (sources : Sources) (fields : Fields) (key : List ℕ) (views : List (List ℕ)) (made : List ℕ) → outcome_of_views octets sources fields key views ≡ Ok made → Filled octets sources fields key views made
 unfolding outcome_of_views
@@ -258,12 +258,12 @@ filled octets sources fields key views made e =
     octets_are xs ys k = cc
 
 -- and before
-record UnderKey (octets : List ℕ) (sources : Sources) (fields : Fields) (key : List ℕ) (made : List ℕ) : Type 0 where
-  long : is_long_enough fields.mac (value_bits fields.mac fields.bits) ≡ true
-  texts : not_text sources.rows fields ≡ None
-  views : List (List ℕ)
-  views_are : views_from sources 0 1 fields.references ≡ Ok views
-  then_filled : Filled octets sources fields key views made
+pub record UnderKey (octets : List ℕ) (sources : Sources) (fields : Fields) (key : List ℕ) (made : List ℕ) : Type 0 where
+  pub long : is_long_enough fields.mac (value_bits fields.mac fields.bits) ≡ true
+  pub texts : not_text sources.rows fields ≡ None
+  pub views : List (List ℕ)
+  pub views_are : views_from sources 0 1 fields.references ≡ Ok views
+  pub then_filled : Filled octets sources fields key views made
 
 under : (octets : List ℕ) (sources : Sources) (fields : Fields) (key made : List ℕ) → outcome_under_key octets sources fields key ≡ Ok made → UnderKey octets sources fields key made
 unfolding outcome_under_key
@@ -275,10 +275,10 @@ under octets sources fields key made e =
     let c = given (views_from sources 0 1 fields.references) (outcome_of_views octets sources fields key) made b.1 in
     record { long = a.0; texts = b.0; views = c.0; views_are = c.1; then_filled = filled octets sources fields key c.0 made c.2 }
 
-record OfFields (octets : List ℕ) (sources : Sources) (question : QuestionOf) (fields : Fields) (made : List ℕ) : Type 0 where
-  key : KeyEntry
-  chosen : key_of fields.key_name question ≡ Ok key
-  then_under : UnderKey octets sources fields key.octets made
+pub record OfFields (octets : List ℕ) (sources : Sources) (question : QuestionOf) (fields : Fields) (made : List ℕ) : Type 0 where
+  pub key : KeyEntry
+  pub chosen : key_of fields.key_name question ≡ Ok key
+  pub then_under : UnderKey octets sources fields key.octets made
 
 of_fields : (octets : List ℕ) (sources : Sources) (question : QuestionOf) (fields : Fields) (made : List ℕ) → outcome_of_fields octets sources question fields ≡ Ok made → OfFields octets sources question fields made
 unfolding outcome_of_fields
@@ -286,16 +286,16 @@ of_fields octets sources question fields made e =
     let a = given_past choice_refusal (key_of fields.key_name question) (λ key. outcome_under_key octets sources fields key.octets) made e in
     record { key = a.0; chosen = a.1; then_under = under octets sources fields a.0.octets made a.2 }
 
-record OfOctets (octets : List ℕ) (question : QuestionOf) (files : Held) (made : List ℕ) : Type 0 where
-  rows : List RowOf
-  read : read_outcome octets ≡ Ok rows
-  x : ℕ
-  found : nth_signature rows question.index ≡ Some x
-  fields : Fields
-  fields_are : fields_of rows x ≡ Ok fields
-  then_fields : OfFields octets (sources_at rows x question files) question fields made
+pub record OfOctets (octets : List ℕ) (question : QuestionOf) (files : Held) (made : List ℕ) : Type 0 where
+  pub rows : List RowOf
+  pub read : read_outcome octets ≡ Ok rows
+  pub x : ℕ
+  pub found : nth_signature rows question.index ≡ Some x
+  pub fields : Fields
+  pub fields_are : fields_of rows x ≡ Ok fields
+  pub then_fields : OfFields octets (sources_at rows x question files) question fields made
 
-of_octets : (octets : List ℕ) (question : QuestionOf) (files : Held) (made : List ℕ) → outcome octets question files ≡ Ok made → OfOctets octets question files made
+pub of_octets : (octets : List ℕ) (question : QuestionOf) (files : Held) (made : List ℕ) → outcome octets question files ≡ Ok made → OfOctets octets question files made
 unfolding outcome outcome_of_rows
 of_octets octets question files made e =
     let a = given_past refusal.Read (read_outcome octets) (λ rows. outcome_of_rows octets rows question files) made e in

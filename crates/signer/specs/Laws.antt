@@ -1,4 +1,4 @@
--- What is signed validates: XML Signature 1.1, sections 3.1 and 3.2.
+-- What is signed validates, and is the same when it is signed again: XML Signature 1.1, sections 3.1 and 3.2.
 use Rattle.std.specs.Prelude.{◌≡◌, ℕ, List, length, map, Some, Ok}
 use Rattle.sig_outside.specs.Told.{Held}
 use Rattle.xml_doc.specs.Rows.{RowOf}
@@ -31,3 +31,8 @@ pub record IsValid (octets : List ℕ) (question : QuestionOf) (files : Held) (m
 abbrev pub SignedIsValid : Type 0
 SignedIsValid = (octets made : List ℕ) (question : QuestionOf) (files : Held) → outcome octets question files ≡ Ok made
     → IsValid octets question files made
+
+-- Signing a document that signing has made, asked the same with the same files, gives the same octets.
+abbrev pub FilledAgain : Type 0
+FilledAgain = (octets made : List ℕ) (question : QuestionOf) (files : Held) → outcome octets question files ≡ Ok made
+    → outcome made question files ≡ Ok made

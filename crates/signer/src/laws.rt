@@ -7,7 +7,7 @@ ghost use Rattle.dsig_fields.specs.Fields.{fields_of};
 ghost use Rattle.dsig_fields.specs.Holds.{is_long_enough, value_bits};
 ghost use Rattle.dsig_fields.specs.Signatures.{nth_signature};
 ghost use Rattle.dsig_fields.specs.declared.fields.Fields.{Fields};
-ghost use Rattle.signer.specs.Laws.{SignedIsValid};
+ghost use Rattle.signer.specs.Laws.{FilledAgain, SignedIsValid};
 ghost use Rattle.signer.specs.Outcome.{not_text};
 ghost use Rattle.signer.specs.Signed.{AreSpelled, Holds, signed, unsigned, value_under};
 
@@ -32,4 +32,10 @@ pub fn what_is_filled_in_is_spelled()
 /// template's views.
 pub fn what_is_signed_is_valid()
     ensures { SignedIsValid }
+{}
+
+/// Signing what is signed changes nothing: where a template is filled in, filling in what was made, asked the same with the same
+/// files, gives the same octets.
+pub fn filling_again_changes_nothing()
+    ensures { FilledAgain }
 {}

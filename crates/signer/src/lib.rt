@@ -8,6 +8,7 @@ mod laws;
 mod refusal;
 
 pub use crate::laws::{
-    what_is_filled_in_is_spelled, what_is_signed_holds, what_is_signed_is_valid,
+    filling_again_changes_nothing, what_is_filled_in_is_spelled, what_is_signed_holds,
+    what_is_signed_is_valid,
 };
 pub use crate::refusal::SignRefusal;
