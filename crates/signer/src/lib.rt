@@ -4,10 +4,16 @@
 //! written over its DigestValues, and the HMAC of its canonical SignedInfo over its SignatureValue. No other octet changes.
 #![tactic(auto)]
 
+mod inserting;
 mod laws;
 mod refusal;
+mod signing;
+mod template;
 
+pub use crate::inserting::insert_template;
 pub use crate::laws::{
     what_is_filled_in_is_spelled, what_is_signed_holds, what_is_signed_is_valid,
 };
 pub use crate::refusal::SignRefusal;
+pub use crate::signing::fill;
+pub use crate::template::{TemplateOptions, TemplateRefusal};
