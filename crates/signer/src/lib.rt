@@ -4,11 +4,18 @@
 //! written over its DigestValues, and the HMAC of its canonical SignedInfo over its SignatureValue. No other octet changes.
 #![tactic(auto)]
 
+mod comparing;
+mod filling;
 mod inserting;
 mod laws;
+mod reading;
 mod refusal;
+mod sealing;
 mod signing;
 mod template;
+#[cfg(test)]
+mod tests;
+mod views;
 
 pub use crate::inserting::insert_template;
 pub use crate::laws::{
