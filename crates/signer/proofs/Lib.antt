@@ -4,3 +4,10 @@ pub mod Bare
 pub mod Octets
 pub mod Premises
 pub mod Made
+pub mod Refusing
+pub mod PairLaws
+pub mod ViewLaws
+pub mod Stands
+pub mod SigningLaws
+pub mod SealLaws
+pub mod CompareLaws

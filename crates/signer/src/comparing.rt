@@ -32,6 +32,17 @@ use uri_refs::Place;
 use xml_doc::Doc;
 use xml_read::read_document;
 
+/// What it comes to where a Reference has no view: none is the one that is compared with it, unless it isn't known.
+fn not_had(cause: RefRefusal) -> Result<bool, SignRefusal>
+    ensures { result ≡ code.not_had cause }
+{
+    match cause {
+        RefRefusal::FetchFailed => Err(SignRefusal::FetchFailed),
+        RefRefusal::SinkRefused | RefRefusal::Memory => Err(SignRefusal::Memory),
+        _ => Ok(false),
+    }
+}
+
 /// Whether the view of a Reference is this one.
 fn is_view<F: Folder>(
     alloc: Global,
@@ -54,9 +65,7 @@ fn is_view<F: Folder>(
 {
     match view_of_reference(alloc, doc, signature, reference, place, folder) {
         Ok(had) => Ok(had.bytes() == view),
-        Err(RefRefusal::FetchFailed) => Err(SignRefusal::FetchFailed),
-        Err(RefRefusal::SinkRefused | RefRefusal::Memory) => Err(SignRefusal::Memory),
-        Err(_) => Ok(false),
+        Err(cause) => not_had(cause),
     }
 }
 
@@ -106,7 +115,7 @@ fn compare_document<F: Folder>(
     ensures causes { HasOwnCause result }
     ensures held { F.held folder.new ≡ F.held folder.old }
     ensures asked { ForSome (F.held folder.old) (λ files. AsksAll result
-        (code.names_again (sources_of doc.now signature place.now files) views.now) (F.asked folder.old) (F.asked folder.new)) }
+        (code.names_of_comparison (sources_of doc.now signature place.now files) views.now) (F.asked folder.old) (F.asked folder.new)) }
     ensures faults { FaultCounts result (F.faults folder.old) (F.faults folder.new) }
 {
     let Ok(fields) = read_fields(alloc, doc, signature) else {

@@ -79,7 +79,7 @@ fn opened(alloc: Global, row: &Row<'_>, text: &[u8]) -> Result<Vec<u8>, AllocErr
 
 /// The span of an element's content, and a text there.
 pub(crate) fn content_span(alloc: Global, row: &Row<'_>, text: Vec<u8>) -> Result<Span, AllocError>
-    ensures { IfOk result (λ span. seen_span span ≡ span_of (row_of row.now) text.entry.items) }
+    ensures { IfOk result (λ span. seen_span span ≡ span_of (row_of row.now) text.items) }
 {
     let from = row.body_from as usize;
     let until = row.body_until as usize;

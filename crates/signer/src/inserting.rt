@@ -182,7 +182,7 @@ fn template_text(alloc: Global, options: &TemplateOptions) -> Result<Vec<u8>, No
 
 /// The span behind the content of an element, and a text there; an empty-element tag is opened.
 fn insertion(alloc: Global, row: &Row<'_>, text: Vec<u8>) -> Result<Span, AllocError>
-    ensures { IfOk result (λ span. seen_span span ≡ spec.insertion (row_of row.now) text.entry.items) }
+    ensures { IfOk result (λ span. seen_span span ≡ spec.insertion (row_of row.now) text.items) }
 {
     if row.empty_tag {
         return content_span(alloc, row, text);
@@ -197,7 +197,7 @@ fn insertion(alloc: Global, row: &Row<'_>, text: Vec<u8>) -> Result<Span, AllocE
 
 /// What is inserted, by the document element.
 fn insertions(alloc: Global, doc: &Doc<'_>, text: Vec<u8>) -> Result<Vec<Span>, NoMemory>
-    ensures { IfOk result (λ spans. map seen_span spans.items ≡ spec.insertions doc.now text.entry.items (document_element doc.now)) }
+    ensures { IfOk result (λ spans. map seen_span spans.items ≡ spec.insertions doc.now text.items (document_element doc.now)) }
 {
     let mut spans = Vec::new(alloc);
     if let Some(element) = doc.document_element() {

@@ -59,7 +59,6 @@ fn fill_value<F: Folder>(
     folder: &mut F,
 ) -> Result<Octets, SignRefusal>
     requires template { IsTemplate bytes.now doc.now (seen_template template.now) }
-    requires count { length views.now ≡ length template.now.fields.references }
     requires seal { seal_of (unsigned bytes.now doc.now template.now.fields views.now) template.now.fields template.now.key.now ≡ Ok seal.now }
     ensures outcome { (files : Held) → TellsEach place.now template.now.fields.references (F.held folder.old) files
         → Gives (λ octets. octets) result (code.outcome_of_seal bytes.now doc.now (seen_template template.now) place.now files views.now seal.now) }
@@ -90,7 +89,6 @@ fn fill_views<F: Folder>(
     folder: &mut F,
 ) -> Result<Octets, SignRefusal>
     requires template { IsTemplate bytes.now doc.now (seen_template template.now) }
-    requires count { length views.now ≡ length template.now.fields.references }
     ensures outcome { (files : Held) → TellsEach place.now template.now.fields.references (F.held folder.old) files
         → Gives (λ octets. octets) result (code.outcome_behind bytes.now doc.now (seen_template template.now) place.now files views.now) }
     ensures causes { HasOwnCause result }

@@ -88,7 +88,7 @@ impl Gathered {
     fn keep(&mut self, view: Octets) -> Result<(), NoMemory>
         requires total { self.old.total ≤ 536870912 }
         requires length { length view ≤ 33554432 }
-        ensures { OnOk result (self.new ≡ code.with_view view.entry self.old) }
+        ensures { OnOk result (self.new ≡ code.with_view view self.old) }
     {
         let length = view.len() as u64;
         self.views.push(view)?;
@@ -106,9 +106,8 @@ impl Gathered {
         requires total { self.old.total ≤ 536870912 }
         requires steps { length reference.now.steps ≤ 16 }
         requires length { length view ≤ 33554432 }
-        ensures added { outcomes.Gives code.Limits (λ _. self.new) result (code.with_limited number reference.now view.entry self.old) }
+        ensures added { outcomes.Gives code.Limits (λ _. self.new) result (code.with_limited number reference.now view self.old) }
         ensures within { OnOk result (self.new.total ≤ 536870912) }
-        ensures count { OnOk result (length self.new.views ≡ length self.old.views + 1) }
         ensures causes { IsOwnStop result }
     {
         if TOTAL_LIMIT < self.total + view.len() as u64 {
@@ -136,7 +135,6 @@ impl Gathered {
         ensures gathered { (files : Held) → Tells (target_in place.now reference.now) (F.held folder.old) files
             → Gives (λ _. self.new) result (code.with_reference (sources_of doc.now signature place.now files) number reference.now self.old) }
         ensures within { OnOk result (self.new.total ≤ 536870912) }
-        ensures count { OnOk result (length self.new.views ≡ length self.old.views + 1) }
         ensures causes { IsOwnStop result }
         ensures held { F.held folder.new ≡ F.held folder.old }
         ensures asked { ForSome (F.held folder.old) (λ _. AsksAll result (names_of (target_in place.now reference.now))
@@ -164,7 +162,6 @@ pub(crate) fn views_of<F: Folder>(
     requires signature { signature < length doc.now }
     ensures views { (files : Held) → code.TellsEach place.now references.now (F.held folder.old) files
         → Gives (λ views. views) result (views_from (sources_of doc.now signature place.now files) 0 1 references.now) }
-    ensures count { IfOk result (λ views. length views ≡ length references.now) }
     ensures causes { IsOwnStop result }
     ensures held { F.held folder.new ≡ F.held folder.old }
     ensures asked { ForSome (F.held folder.old) (λ files. AsksAll result
