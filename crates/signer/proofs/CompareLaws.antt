@@ -26,9 +26,10 @@ use Rattle.core_validate.specs.Progress.{sources_of}
 use Rattle.signer.specs.Answers.{AsksAll, FaultCounts}
 use Rattle.signer.specs.Asked.{names_compared}
 use Rattle.signer.specs.Outcome.{first_changed, is_view, references_of, unless}
-use Rattle.signer.specs.Code.Comparing.{TellsAgain, TellsMade, compared, if_fits, made_outcome, names_made, names_of_comparison, not_had}
+use Rattle.signer.specs.Code.Comparing.{TellsAgain, TellsMade, compared, made_outcome, names_made, names_of_comparison, not_had}
 use Rattle.signer.specs.Code.Filling.{AreThrough, BeginWith}
 use Rattle.signer.specs.Code.Refusals.{IsOutside, Stops, filled_cause}
+use Rattle.signer.specs.Code.Sealing.{if_fits}
 use Rattle.signer.specs.Code.Views.{Shows, TellsEach}
 use Rattle.signer.specs.declared.refusal.SignRefusal.{SignRefusal}
 use Rattle.signer.specs.declared.refusal.SignRefusal.TheVariants as refusal
@@ -102,7 +103,7 @@ not_had_counts reason.Memory before now e = e
 
 -- ---- the References that are left
 module _ (sources : Sources) where
-  abbrev had : Reference → Result (List ℕ) RefRefusal
+  abbrev pub had : Reference → Result (List ℕ) RefRefusal
   had reference = view_of (origin_of sources.rows (Some sources.signature)) sources.place sources.files reference
 
   pub changed_none : (number : ℕ) (rs : List Reference) (vs : List (List ℕ)) → AreThrough rs vs → first_changed sources number rs vs ≡ None

@@ -11,3 +11,4 @@ pub mod Stands
 pub mod SigningLaws
 pub mod SealLaws
 pub mod CompareLaws
+pub mod InsertLaws

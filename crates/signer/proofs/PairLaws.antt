@@ -1,7 +1,7 @@
 -- References and their views side by side, and the texts that are looked at.
 use Rattle.std.proofs.Common.{◌≡◌, ◌∙◌, ℕ, zero, suc, ◌<◌, ◌≤◌, ◌+◌, Bool, true, false, not, cond, Some, None, List, [], ◌∷◌, ◌++◌, length, map, drop, refl, sym, ap, subst, inl, inr, arith, append_assoc, append-nil, add-one}
-use Rattle.std.specs.Prelude.{◌⊎◌, slice_get, Option}
-use Rattle.std.specs.List.{find, list_all}
+use Rattle.std.specs.Prelude.{◌⊎◌, ◌&&◌, slice_get, Option}
+use Rattle.std.specs.List.{All, find, list_all}
 use Rattle.std.proofs.lemmas.Option.{slice_get_within}
 use Rattle.sig_base.proofs.ListLemmas.{drop-at, drop_none}
 use Rattle.xml_doc.specs.Rows.{RowOf}
@@ -28,6 +28,7 @@ pub begin_with : (references : List Reference) (views : List (List ℕ)) (k : �
     → Some reference ≡ slice_get references k → Some view ≡ slice_get views k → BeginWith k references views reference view
 begin_with references views k reference view e f = record {
   within = slice_get_within references k reference (sym e);
+  found = e;
   references_are = drop-at references k reference e;
   views_are = drop-at views k view f;
 }
@@ -46,8 +47,8 @@ next_fillings rows references views k r v b =
     ∙ ap (λ vs. spans_of rows (digest_fillings (r ∷ drop (k + 1) references) vs)) b.views_are
 
 -- one more span is written
-pub span_added : (before now new : List Span) (s : Span) (rest all : List Span) → now ++ (s ∷ rest) ≡ before ++ all → new ≡ now ++ s ∷ [] → new ++ rest ≡ before ++ all
-span_added before now new s rest all e f = ap (λ (t : List Span). t ++ rest) f ∙ append_assoc now (s ∷ []) rest ∙ e
+pub span_added : (now new : List Span) (s : Span) (rest all : List Span) → now ++ (s ∷ rest) ≡ all → new ≡ now ++ s ∷ [] → new ++ rest ≡ all
+span_added now new s rest all e f = ap (λ (t : List Span). t ++ rest) f ∙ append_assoc now (s ∷ []) rest ∙ e
 
 pub spans_join : (rows : List RowOf) (fs gs : List Filling) → spans_of rows (fs ++ gs) ≡ spans_of rows fs ++ spans_of rows gs
 spans_join rows [] gs = refl
@@ -69,3 +70,24 @@ find_front p (x ∷ xs) ys y e = go (p x) e (λ k. find_front p xs ys y k)
     go : (b : Bool) → cond b (Some x) (find p xs) ≡ Some y → (find p xs ≡ Some y → find p (xs ++ ys) ≡ Some y) → cond b (Some x) (find p (xs ++ ys)) ≡ Some y
     go true k rest = k
     go false k rest = rest k
+
+-- ---- the texts that are left
+pub texts_next : (p : ℕ → Bool) (walk rest : List ℕ) (y : ℕ) (all : Bool) → walk ≡ y ∷ rest → p y ≡ true → list_all p walk ≡ all → list_all p rest ≡ all
+texts_next p walk rest y all e f g = sym (ap (λ (b : Bool). b && list_all p rest) f) ∙ sym (ap (list_all p) e) ∙ g
+
+pub all_behind : (n : ℕ) (walk rest : List ℕ) (y : ℕ) → walk ≡ y ∷ rest → All (λ k. k < n) walk → All (λ k. k < n) rest
+all_behind n walk rest y e all k d h = let P : List ℕ → Type 0 = All (λ j. j < n) in let more = subst P e all in more (suc k) d (omega (arith, h))
+
+-- ---- the rows that are left
+abbrev pub failing : (ℕ → Bool) → List Reference → Option ℕ
+failing p rs = find (λ x. not (p x)) (map (λ (r : Reference). r.digest_row) rs)
+
+pub find_next : (p : ℕ → Bool) (left rest : List Reference) (r : Reference) → left ≡ r ∷ rest → p r.digest_row ≡ true → failing p rest ≡ failing p left
+find_next p left rest r e f = sym (ap (failing p) e ∙ ap (λ (b : Bool). cond (not b) (Some r.digest_row) (failing p rest)) f)
+
+pub find_here : (p : ℕ → Bool) (left rest : List Reference) (r : Reference) → left ≡ r ∷ rest → p r.digest_row ≡ false → failing p left ≡ Some r.digest_row
+find_here p left rest r e f = ap (failing p) e ∙ ap (λ (b : Bool). cond (not b) (Some r.digest_row) (failing p rest)) f
+
+-- all spans together
+pub all_spans : (rows : List RowOf) (fs : List Filling) (g : Filling) (first both : List Span) → first ≡ spans_of rows fs → both ≡ first ++ span_of (row_at rows g.row) g.text ∷ [] → both ≡ spans_of rows (fs ++ g ∷ [])
+all_spans rows fs g first both e f = f ∙ ap (λ (t : List Span). t ++ span_of (row_at rows g.row) g.text ∷ []) e ∙ sym (spans_join rows fs (g ∷ []))

@@ -248,6 +248,23 @@ asked_refused {C} cause outcome before now new all rest names more r e last = go
     go refusal.FetchFailed f s g = rest_grows before now new all rest names more r e g
     go refusal.Memory f s g = rest_grows before now new all rest names more r e g
 
+-- a failure or want of memory leaves the rest
+pub asked_outside : (cause : SignRefusal) (before now new all rest names more : List (List ℕ)) → AsksRest before now all rest → rest ≡ names ++ more
+    → IsOutside {A = Unit {0}} (Err cause) → AsksAll {A = Unit {0}} (Err cause) names now new → AsksAll {A = Unit {0}} (Err cause) all before new
+asked_outside (refusal.Read why_read) before now new all rest names more r e h g = absurd h
+asked_outside refusal.NoSignature before now new all rest names more r e h g = absurd h
+asked_outside (refusal.Fields field) before now new all rest names more r e h g = absurd h
+asked_outside refusal.NoKey before now new all rest names more r e h g = absurd h
+asked_outside refusal.UnknownKey before now new all rest names more r e h g = absurd h
+asked_outside (refusal.ShortTruncation bits) before now new all rest names more r e h g = absurd h
+asked_outside (refusal.NotText row) before now new all rest names more r e h g = absurd h
+asked_outside (refusal.Reference number reason) before now new all rest names more r e h g = absurd h
+asked_outside (refusal.Filled why_read) before now new all rest names more r e h g = absurd h
+asked_outside refusal.OctetsTooLong before now new all rest names more r e h g = absurd h
+asked_outside (refusal.CoversItself number) before now new all rest names more r e h g = absurd h
+asked_outside refusal.FetchFailed before now new all rest names more r e h g = rest_grows before now new all rest names more r e g
+asked_outside refusal.Memory before now new all rest names more r e h g = rest_grows before now new all rest names more r e g
+
 -- ---- the count of faults
 pub counted_stop : {B : Type 0} (cause : SignRefusal) (outcome : Result B SignRefusal) (before now : ℕ) → Stops cause outcome → now ≡ before
     → FaultCounts {A = Unit {0}} (Err cause) before now

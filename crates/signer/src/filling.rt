@@ -2,7 +2,7 @@
 
 ghost use Rattle.std.specs.Prelude.{◌≡◌, ◌<◌, ◌+◌, ◌*◌, ◌/◌, ℕ, List, [], ◌∷◌, ◌++◌, drop, true, length, map, IfOk, OnOk, MatchOption};
 ghost use Rattle.std.specs.Borrow.{Bor};
-ghost use Rattle.std.specs.List.{All, flat_map};
+ghost use Rattle.std.specs.List.{flat_map};
 ghost use Rattle.xml_doc.specs.Rows.{row_of};
 ghost use Rattle.xml_doc.specs.Shape.{row_at};
 ghost use Rattle.xml_spans.specs.Spans as spans;
@@ -11,7 +11,7 @@ ghost use Rattle.row_spans.specs.Code.RowSpans.{span_of};
 ghost use Rattle.row_spans.specs.Seen.{seen_span};
 ghost use Rattle.row_fills.specs.Fillings.{filling, spans_of};
 ghost use Rattle.dsig_base64.specs.Loose.{base64_of};
-ghost use Rattle.dsig_fields.specs.Fits.{FieldsFit, ReferenceFits};
+ghost use Rattle.dsig_fields.specs.Fits.{FieldsFit};
 ghost use Rattle.signer.specs.Code.Filling as code;
 ghost use Rattle.signer.specs.Signed.{digest_fillings, signed};
 
@@ -120,26 +120,29 @@ pub(crate) fn pair_at<'p>(
     ensures { MatchOption result (code.AreThrough (drop k references.now) (drop k views.now))
         (λ pair. code.BeginWith k references.now views.now pair.0.now pair.1.now) }
 {
-    match (references.get(k), views.get(k)) {
-        (Some(reference), Some(view)) => Some((reference, view)),
-        _ => None,
-    }
+    let Some(reference) = references.get(k) else {
+        return None;
+    };
+    let Some(view) = views.get(k) else {
+        return None;
+    };
+    Some((reference, view))
 }
 
 /// Adds the spans of the DigestValues, and the digests of the views there.
 fn add_digests(
     alloc: Global,
     doc: &Doc<'_>,
-    references: &ReferenceList,
+    fields: &Fields,
     views: &OctetsList,
     spans: &mut Vec<Span>,
 ) -> Result<(), AllocError>
-    requires { All (ReferenceFits doc.now) references.now }
+    requires { FieldsFit doc.now fields.now }
     ensures { OnOk result (map seen_span spans.new.items
-        ≡ map seen_span spans.old.items ++ spans_of doc.now (digest_fillings references.now views.now)) }
+        ≡ map seen_span spans.old.items ++ spans_of doc.now (digest_fillings fields.now.references views.now)) }
 {
     let mut k = 0;
-    while let Some((reference, view)) = pair_at(references, views, k) {
+    while let Some((reference, view)) = pair_at(&fields.references, views, k) {
         let value = digest(reference.digest, view.bytes());
         add_span(alloc, doc, reference.digest_row, value.bytes(), spans)?;
         k += 1;
@@ -162,7 +165,7 @@ pub(crate) fn filled(
     ensures { IfOk result (λ made. made ≡ signed octets.now doc.now fields.now views.now value.now) }
 {
     let mut spans = Vec::new(alloc);
-    add_digests(alloc, doc, &fields.references, views, &mut spans)?;
+    add_digests(alloc, doc, fields, views, &mut spans)?;
     add_span(alloc, doc, fields.value_row, value, &mut spans)?;
     let made = write_spans(alloc, octets, &spans)?;
     Ok(Octets::from_vec(made))

@@ -1,5 +1,6 @@
 //! A template is put into a document.
-ghost use Rattle.std.specs.Prelude.{◌≡◌, ◌++◌, ℕ, List, Ok, codes, length, map, IfOk};
+ghost use Rattle.std.specs.Prelude.{◌≡◌, ◌<◌, ◌≤◌, [], ◌∷◌, Ok, length, IfOk};
+ghost use Rattle.xml_doc.specs.Shape.{row_at};
 ghost use Rattle.c14n_text.specs.Escapes.{text_octets};
 ghost use Rattle.xml_doc.specs.Rows.{row_of};
 ghost use Rattle.xml_doc.specs.Top.{document_element};
@@ -15,7 +16,7 @@ use crate::filling::{content_span, joined};
 use crate::template::{TemplateOptions, TemplateRefusal, read_cause};
 use bumpalo::Bump;
 use c14n_text::put_text;
-use row_spans::{Span, write_spans};
+use row_spans::Span;
 use sig_base::{DigestMethod, MacMethod, NoMemory, Octets, Put, Text, VecSink};
 use std::alloc::{AllocError, Global};
 use xml_doc::{Doc, Row};
@@ -195,16 +196,37 @@ fn insertion(alloc: Global, row: &Row<'_>, text: Vec<u8>) -> Result<Span, AllocE
     })
 }
 
-/// What is inserted, by the document element.
-fn insertions(alloc: Global, doc: &Doc<'_>, text: Vec<u8>) -> Result<Vec<Span>, NoMemory>
-    ensures { IfOk result (λ spans. map seen_span spans.items ≡ spec.insertions doc.now text.items (document_element doc.now)) }
+/// The octets with what is to stand at a span.
+fn with_span(alloc: Global, octets: &[u8], span: &Span) -> Result<Vec<u8>, AllocError>
+    requires from { span.now.from ≤ length octets.now }
+    requires until { span.now.until ≤ length octets.now }
+    ensures { IfOk result (λ made. made.items ≡ written octets.now (seen_span span.now ∷ [])) }
 {
-    let mut spans = Vec::new(alloc);
-    if let Some(element) = doc.document_element() {
-        let row = doc.row(element).unwrap();
-        spans.push(insertion(alloc, &row, text)?)?;
-    }
-    Ok(spans)
+    joined(
+        alloc,
+        &[
+            &octets[..span.from],
+            span.new.as_slice(),
+            &octets[span.until..],
+        ],
+    )
+}
+
+/// Puts a text behind the content of an element.
+fn insert_at(
+    alloc: Global,
+    bytes: &[u8],
+    doc: &Doc<'_>,
+    element: u32,
+    text: Vec<u8>,
+) -> Result<Vec<u8>, AllocError>
+    requires read { read_outcome bytes.now ≡ Ok doc.now }
+    requires element { element < length doc.now }
+    ensures { IfOk result (λ made. made.items ≡ written bytes.now (spec.insertion (row_at doc.now element) text.items ∷ [])) }
+{
+    let row = doc.row(element).unwrap();
+    let span = insertion(alloc, &row, text)?;
+    with_span(alloc, bytes, &span)
 }
 
 /// Puts the template into a document that is read.
@@ -218,9 +240,11 @@ fn insert_into(
     ensures { IfOk result (λ octets. octets
         ≡ written bytes.now (spec.insertions doc.now (spec.template_text options.now) (document_element doc.now))) }
 {
+    let Some(element) = doc.document_element() else {
+        return Ok(Octets::from_vec(bytes.to_vec(alloc)?));
+    };
     let text = template_text(alloc, options)?;
-    let spans = insertions(alloc, doc, text)?;
-    let made = write_spans(alloc, bytes, &spans)?;
+    let made = insert_at(alloc, bytes, doc, element, text)?;
     Ok(Octets::from_vec(made))
 }
 

@@ -2,11 +2,11 @@
 //! filled in.
 
 ghost use Rattle.std.specs.Prelude.{◌≡◌, ◌<◌, ◌-◌, ◌*◌, ℕ, not, length, map, IfOk, true};
-ghost use Rattle.std.specs.List.{All, find, list_all};
+ghost use Rattle.std.specs.List.{find, list_all};
 ghost use Rattle.sig_base.specs.Outcomes.{Gives};
 ghost use Rattle.xml_doc.specs.Kinds.{is_text};
 ghost use Rattle.xml_doc.specs.Shape.{row_at};
-ghost use Rattle.dsig_fields.specs.Fits.{FieldsFit, ReferenceFits};
+ghost use Rattle.dsig_fields.specs.Fits.{FieldsFit};
 ghost use Rattle.dsig_fields.specs.Holds as holds;
 ghost use Rattle.dsig_fields.specs.Keys.{question_of};
 ghost use Rattle.dsig_fields.specs.Reading.{children};
@@ -17,7 +17,7 @@ ghost use Rattle.signer.specs.Outcome as spec;
 
 use crate::refusal::SignRefusal;
 use digests_hmac::output_bits;
-use dsig_fields::{Fields, Question, ReferenceList, choose_key, nth_signature, read_fields};
+use dsig_fields::{Fields, Question, choose_key, nth_signature, read_fields};
 use sig_base::MacMethod;
 use std::alloc::Global;
 use xml_doc::{Axis, Doc, Kind};
@@ -75,13 +75,13 @@ fn has_texts(doc: &Doc<'_>, x: u32) -> bool
     true
 }
 
-/// The first DigestValue of these References that has another child than texts.
-fn digest_without_text(doc: &Doc<'_>, references: &ReferenceList) -> Option<u32>
-    requires { All (ReferenceFits doc.now) references.now }
-    ensures { result ≡ find (λ x. not (spec.has_texts doc.now x)) (map (λ (r : Reference). r.digest_row) references.now) }
+/// The first DigestValue that has another child than texts.
+fn digest_without_text(doc: &Doc<'_>, fields: &Fields) -> Option<u32>
+    requires { FieldsFit doc.now fields.now }
+    ensures { result ≡ find (λ x. not (spec.has_texts doc.now x)) (map (λ (r : Reference). r.digest_row) fields.now.references) }
 {
     let mut k = 0;
-    while let Some(reference) = references.get(k) {
+    while let Some(reference) = fields.references.get(k) {
         if !has_texts(doc, reference.digest_row) {
             return Some(reference.digest_row);
         }
@@ -95,7 +95,7 @@ fn not_text(doc: &Doc<'_>, fields: &Fields) -> Option<u32>
     requires { FieldsFit doc.now fields.now }
     ensures { result ≡ spec.not_text doc.now fields.now }
 {
-    match digest_without_text(doc, &fields.references) {
+    match digest_without_text(doc, fields) {
         Some(row) => Some(row),
         None => {
             if has_texts(doc, fields.value_row) {

@@ -7,10 +7,10 @@ use Rattle.signer.proofs.filling.add_digests.Given as goal
 -- the spans, and those that are left, are all
 abbrev pub invariant-loop-reference : goal.invariant-loop-reference
 invariant-loop-reference l = record {
-  within : l.k ≤ length l.references;
-  told : map seen_span l.spans.items ++ spans_of l.doc (digest_fillings (drop l.k l.references) (drop l.k l.views))
-      ≡ map seen_span l.initial.spans.items ++ spans_of l.doc (digest_fillings l.references l.views);
+  within : l.k ≤ length l.fields.references;
+  told : map seen_span l.spans.items ++ spans_of l.doc (digest_fillings (drop l.k l.fields.references) (drop l.k l.views))
+      ≡ map seen_span l.initial.spans.items ++ spans_of l.doc (digest_fillings l.fields.references l.views);
 }
 
 abbrev pub decreases-loop-reference : goal.decreases-loop-reference
-decreases-loop-reference l = length l.references - l.k
+decreases-loop-reference l = length l.fields.references - l.k

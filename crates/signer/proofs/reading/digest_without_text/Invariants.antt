@@ -7,10 +7,10 @@ use Rattle.signer.proofs.reading.digest_without_text.Given as goal
 -- the References that are left decide
 abbrev pub invariant-loop-reference : goal.invariant-loop-reference
 invariant-loop-reference l = record {
-  within : l.k ≤ length l.references;
-  left : find (λ x. not (has_texts l.doc x)) (map (λ (r : Reference). r.digest_row) (drop l.k l.references))
-      ≡ find (λ x. not (has_texts l.doc x)) (map (λ (r : Reference). r.digest_row) l.references);
+  within : l.k ≤ length l.fields.references;
+  left : find (λ x. not (has_texts l.doc x)) (map (λ (r : Reference). r.digest_row) (drop l.k l.fields.references))
+      ≡ find (λ x. not (has_texts l.doc x)) (map (λ (r : Reference). r.digest_row) l.fields.references);
 }
 
 abbrev pub decreases-loop-reference : goal.decreases-loop-reference
-decreases-loop-reference l = length l.references - l.k
+decreases-loop-reference l = length l.fields.references - l.k

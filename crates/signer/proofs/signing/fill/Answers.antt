@@ -1,12 +1,11 @@
-use Rattle.std.proofs.Common.{◌≡◌, ℕ, List, Result, refl, sym, subst}
-use Rattle.sig_outside.specs.Told.{no_files}
+use Rattle.std.proofs.Common.{◌≡◌, ℕ, List, Result, sym, subst}
 use Rattle.dsig_fields.specs.Keys.{question_of}
 use Rattle.xml_read.specs.ReadOutcome.{read_outcome}
 use Rattle.signer.specs.Answers.{AsksAll}
 use Rattle.signer.specs.Asked.{names_asked}
 use Rattle.signer.specs.Code.Refusals.{read_cause}
 use Rattle.signer.specs.Outcome.{outcome, outcome_of_rows}
-use Rattle.signer.proofs.Refusing.{counted_stop, gives_by, own_from, refuses_from}
+use Rattle.signer.proofs.Refusing.{gives_by, refuses_from}
 use Rattle.signer.proofs.SigningLaws.{names_at, nothing_asked, outcome_at, outcome_stops, read_asks, tells_rows, valid_of}
 use Rattle.signer.proofs.signing.fill.Goals as goal
 
@@ -29,23 +28,13 @@ returns-in-Ok-clause-asked g c = λ files told.
     let P : List (List ℕ) → Type 0 = λ names. AsksAll result names (g.F.Folder.asked c.args.folder.now) (g.F.Folder.asked c.fill_document.new.folder) in
     subst P (sym (names_at octets c.in-Ok.doc question files c.in-Ok.ensures)) (c.fill_document.ensures.asked files told)
 
-pub returns-in-Err-clause-outcome : goal.returns-in-Err-clause-outcome
-returns-in-Err-clause-outcome g c = λ files tells.
+pub returns-clause-outcome : goal.returns-clause-outcome
+returns-clause-outcome g c = λ files tells.
     let octets = c.args.bytes.now in let question = question_of c.args.question.now in
     rw c.read_cause.ensures
     (refuses_from (read_cause c.in-Err.cause) (outcome octets question files) (outcome octets question files) (λ e. e) (outcome_stops octets question files c.in-Err.cause c.in-Err.ensures))
 
-pub returns-in-Err-clause-causes : goal.returns-in-Err-clause-causes
-returns-in-Err-clause-causes g c =
-    let octets = c.args.bytes.now in let question = question_of c.args.question.now in
-    rw c.read_cause.ensures (own_from (read_cause c.in-Err.cause) (outcome octets question no_files) (outcome_stops octets question no_files c.in-Err.cause c.in-Err.ensures))
-
-pub returns-in-Err-clause-asked : goal.returns-in-Err-clause-asked
-returns-in-Err-clause-asked g c = λ files told.
+pub returns-clause-asked : goal.returns-clause-asked
+returns-clause-asked g c = λ files told.
     let octets = c.args.bytes.now in let question = question_of c.args.question.now in
     rw c.read_cause.ensures (read_asks (read_outcome octets) (names_asked octets question files) _ c.in-Err.cause c.in-Err.ensures (λ e. nothing_asked octets question files c.in-Err.cause e))
-
-pub returns-in-Err-clause-faults : goal.returns-in-Err-clause-faults
-returns-in-Err-clause-faults g c =
-    let octets = c.args.bytes.now in let question = question_of c.args.question.now in
-    rw c.read_cause.ensures (counted_stop (read_cause c.in-Err.cause) (outcome octets question no_files) _ _ (outcome_stops octets question no_files c.in-Err.cause c.in-Err.ensures) refl)

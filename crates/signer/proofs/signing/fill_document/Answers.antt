@@ -1,18 +1,17 @@
 use Rattle.std.proofs.Common.{◌≡◌, ◌∙◌, ℕ, List, Ok, Err, refl, ap, sym, subst}
-use Rattle.sig_outside.specs.Told.{no_files}
 use Rattle.dsig_fields.specs.Keys.{question_of}
 use Rattle.signer.specs.Answers.{AsksAll}
 use Rattle.signer.specs.Outcome.{outcome_of_rows}
 use Rattle.signer.specs.Code.Reading.{seen_template, template_of}
 use Rattle.signer.specs.Code.Signing.{names_of_rows, template_outcome}
-use Rattle.signer.proofs.Refusing.{asked_nothing, counted_stop, gives_by, own_from, refuses_from}
+use Rattle.signer.proofs.Refusing.{asked_nothing, gives_by, refuses_from}
 use Rattle.signer.proofs.SigningLaws.{is_template, names_rows_at, rows_at, tells_each}
 use Rattle.signer.proofs.signing.fill_document.Goals as goal
 
 pub fill_template-requires : goal.fill_template-requires
 fill_template-requires g c =
-    is_template c.args.bytes.now c.args.doc.now (question_of c.args.question.now) (seen_template c.in-Ok.template) c.requires c.in-Ok.ensures.template
-    c.in-Ok.ensures.fit.fit c.in-Ok.ensures.fit.within
+    record { template = is_template c.args.bytes.now c.args.doc.now (question_of c.args.question.now) (seen_template c.in-Ok.template) c.requires.read c.in-Ok.ensures.template
+    c.in-Ok.ensures.fit.fit c.in-Ok.ensures.fit.within }
 
 pub returns-in-Ok-clause-outcome : goal.returns-in-Ok-clause-outcome
 returns-in-Ok-clause-outcome g c = λ files tells.
@@ -32,13 +31,7 @@ returns-in-Err-clause-outcome g c = λ files tells.
     let octets = c.args.bytes.now in let question = question_of c.args.question.now in let rows = c.args.doc.now in let cause = c.in-Err.cause in
     refuses_from cause (template_of rows question) (outcome_of_rows octets rows question files) (λ e. rows_at octets rows question files (Err cause) e) c.in-Err.ensures.template
 
-pub returns-in-Err-clause-causes : goal.returns-in-Err-clause-causes
-returns-in-Err-clause-causes g c = own_from c.in-Err.cause (template_of c.args.doc.now (question_of c.args.question.now)) c.in-Err.ensures.template
-
 pub returns-in-Err-clause-asked : goal.returns-in-Err-clause-asked
 returns-in-Err-clause-asked g c = λ files told.
     let octets = c.args.bytes.now in let question = question_of c.args.question.now in let rows = c.args.doc.now in let cause = c.in-Err.cause in
     asked_nothing cause (template_of rows question) (names_of_rows octets rows question files) _ c.in-Err.ensures.template (λ e. names_rows_at octets rows question files (Err cause) e)
-
-pub returns-in-Err-clause-faults : goal.returns-in-Err-clause-faults
-returns-in-Err-clause-faults g c = counted_stop c.in-Err.cause (template_of c.args.doc.now (question_of c.args.question.now)) _ _ c.in-Err.ensures.template refl

@@ -5,7 +5,7 @@ use Rattle.signer.specs.Answers.{AsksAll}
 use Rattle.signer.specs.Outcome.{views_from}
 use Rattle.signer.specs.Code.Reading.{seen_template}
 use Rattle.signer.specs.Code.Signing.{names_behind_views, names_of_template, outcome_behind, template_outcome}
-use Rattle.signer.proofs.Refusing.{asked_refused, asked_rest, counted_on, gives_by, own_on, refuses_on, rest_begins, rest_goes}
+use Rattle.signer.proofs.Refusing.{asked_refused, asked_rest, gives_by, refuses_on, rest_begins, rest_goes}
 use Rattle.signer.proofs.SigningLaws.{template_at, template_names, template_names_at}
 use Rattle.signer.proofs.signing.fill_template.Goals as goal
 
@@ -15,9 +15,6 @@ returns-in-Ok-clause-outcome g c = λ files tells.
     gives_by (λ (made : List ℕ). made) c.fill_views.result (outcome_behind octets rows t place files views) (template_outcome octets rows t place files)
     (template_at octets rows t place files (Ok views) (c.in-Ok.ensures.views files tells))
     (c.fill_views.ensures.outcome files (rw c.in-Ok.ensures.held tells))
-
-pub returns-in-Ok-clause-held : goal.returns-in-Ok-clause-held
-returns-in-Ok-clause-held g c = c.fill_views.ensures.held ∙ c.in-Ok.ensures.held
 
 pub returns-in-Ok-clause-asked : goal.returns-in-Ok-clause-asked
 returns-in-Ok-clause-asked g c = λ files told.
@@ -29,17 +26,11 @@ returns-in-Ok-clause-asked g c = λ files told.
     (rest_goes _ _ _ all all first second (rest_begins _ all) (template_names_at octets rows t place files (Ok views) (c.in-Ok.ensures.views files (inl told))) (c.in-Ok.ensures.asked files told))
     (c.fill_views.ensures.asked files (c.in-Ok.ensures.held ∙ told))
 
-pub returns-in-Ok-clause-faults : goal.returns-in-Ok-clause-faults
-returns-in-Ok-clause-faults g c = counted_on c.fill_views.result _ _ _ c.in-Ok.ensures.faults c.fill_views.ensures.faults
-
 pub returns-in-Err-clause-outcome : goal.returns-in-Err-clause-outcome
 returns-in-Err-clause-outcome g c = λ files tells.
     let octets = c.args.bytes.now in let rows = c.args.doc.now in let t = seen_template c.args.template.now in let place = c.args.place.now in let cause = c.in-Err.cause in
     refuses_on cause (views_from (sources_of rows t.signature place files) 0 1 t.fields.references) (template_outcome octets rows t place files) (λ e. template_at octets rows t place files (Err cause) e)
     (c.in-Err.ensures.views files tells)
-
-pub returns-in-Err-clause-causes : goal.returns-in-Err-clause-causes
-returns-in-Err-clause-causes g c = own_on c.in-Err.cause c.in-Err.ensures.causes
 
 pub returns-in-Err-clause-asked : goal.returns-in-Err-clause-asked
 returns-in-Err-clause-asked g c = λ files told.

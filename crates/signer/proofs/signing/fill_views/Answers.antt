@@ -4,7 +4,7 @@ use Rattle.signer.specs.Signed.{unsigned}
 use Rattle.signer.specs.Code.Reading.{seen_template}
 use Rattle.signer.specs.Code.Sealing.{seal_of}
 use Rattle.signer.specs.Code.Signing.{names_behind_views, outcome_behind, outcome_of_seal}
-use Rattle.signer.proofs.Refusing.{asked_nothing, counted_stop, gives_by, own_from, refuses_from}
+use Rattle.signer.proofs.Refusing.{asked_nothing, gives_by, refuses_from}
 use Rattle.signer.proofs.SigningLaws.{behind_at, names_behind_at}
 use Rattle.signer.proofs.signing.fill_views.Goals as goal
 
@@ -26,17 +26,7 @@ returns-in-Err-clause-outcome g c = λ files tells.
     let octets = c.args.bytes.now in let rows = c.args.doc.now in let t = seen_template c.args.template.now in let place = c.args.place.now in let views = c.args.views.now in let cause = c.in-Err.cause in
     refuses_from cause (seal_of (unsigned octets rows t.fields views) t.fields t.key) (outcome_behind octets rows t place files views) (λ e. behind_at octets rows t place files views (Err cause) e) c.in-Err.ensures
 
-pub returns-in-Err-clause-causes : goal.returns-in-Err-clause-causes
-returns-in-Err-clause-causes g c =
-    let t = seen_template c.args.template.now in
-    own_from c.in-Err.cause (seal_of (unsigned c.args.bytes.now c.args.doc.now t.fields c.args.views.now) t.fields t.key) c.in-Err.ensures
-
 pub returns-in-Err-clause-asked : goal.returns-in-Err-clause-asked
 returns-in-Err-clause-asked g c = λ files told.
     let octets = c.args.bytes.now in let rows = c.args.doc.now in let t = seen_template c.args.template.now in let place = c.args.place.now in let views = c.args.views.now in let cause = c.in-Err.cause in
     asked_nothing cause (seal_of (unsigned octets rows t.fields views) t.fields t.key) (names_behind_views octets rows t place files views) _ c.in-Err.ensures (λ e. names_behind_at octets rows t place files views (Err cause) e)
-
-pub returns-in-Err-clause-faults : goal.returns-in-Err-clause-faults
-returns-in-Err-clause-faults g c =
-    let t = seen_template c.args.template.now in
-    counted_stop c.in-Err.cause (seal_of (unsigned c.args.bytes.now c.args.doc.now t.fields c.args.views.now) t.fields t.key) _ _ c.in-Err.ensures refl

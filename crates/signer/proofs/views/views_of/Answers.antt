@@ -14,30 +14,6 @@ use Rattle.signer.proofs.Refusing.{asked_refused, counted_on, refuses_on, ended,
 use Rattle.signer.proofs.ViewLaws.{all_at, behind, behind_all, behind_nothing, behind_one, behind_refused, named, names_last, names_none, names_one, names_split, next_of, tells_at}
 use Rattle.signer.proofs.views.views_of.Goals as goal
 
-pub loop-reference-init : goal.loop-reference-init
-loop-reference-init g c =
-    let rows = c.args.doc.now in let all = c.args.references.now in
-    record {
-      within = omega arith;
-      limit = rw c.new-gathered.ensures (omega arith);
-      left = λ files tells. rw c.new-gathered.ensures (behind_nothing (sources_of rows c.args.signature c.args.place.now files) all);
-      held = refl;
-      asked = λ files told. rw c.new-gathered.ensures (rest_begins _ (names_behind (sources_of rows c.args.signature c.args.place.now files) 0 all));
-      faults = refl;
-    }
-
-pub add_reference-requires-clause-total : goal.add_reference-requires-clause-total
-add_reference-requires-clause-total g c = c.loop-reference.invariant.limit
-
-pub add_reference-requires-clause-fits : goal.add_reference-requires-clause-fits
-add_reference-requires-clause-fits g c =
-    all_at (ReferenceFits c.args.doc.now) c.args.references.now c.loop-reference.number c.in-Some.reference.now c.requires.fit c.in-Some.ensures
-
-pub loop-reference-smaller : goal.loop-reference-smaller
-loop-reference-smaller g c =
-    let within = slice_get_within c.args.references.now c.loop-reference.number c.in-Some.reference.now (sym c.in-Some.ensures) in
-    omega arith
-
 pub loop-reference-preserved : goal.loop-reference-preserved
 loop-reference-preserved g c =
     let rows = c.args.doc.now in let signature = c.args.signature in let place = c.args.place.now in
@@ -80,14 +56,6 @@ returns-in_err-add_reference-clause-views g c = λ files tells.
     ∙ behind_refused sources (n + 1) r (drop (n + 1) all) p cause h)
     (c.in_err-add_reference.ensures.gathered files (tells_at c.args.place.now all _ _ files n r c.loop-reference.invariant.held tells c.in-Some.ensures)))
 
-pub returns-in_err-add_reference-clause-causes : goal.returns-in_err-add_reference-clause-causes
-returns-in_err-add_reference-clause-causes g c =
-    let e = err_from_is_err_and c.from_residual.result c.from_residual.ensures.1 in
-    rw (e.1, e.2) c.in_err-add_reference.ensures.causes
-
-pub returns-in_err-add_reference-clause-held : goal.returns-in_err-add_reference-clause-held
-returns-in_err-add_reference-clause-held g c = c.in_err-add_reference.ensures.held ∙ c.loop-reference.invariant.held
-
 pub returns-in_err-add_reference-clause-asked : goal.returns-in_err-add_reference-clause-asked
 returns-in_err-add_reference-clause-asked g c = λ files told.
     let rows = c.args.doc.now in let all = c.args.references.now in let p = c.loop-reference.gathered in let n = c.loop-reference.number in
@@ -101,11 +69,6 @@ returns-in_err-add_reference-clause-asked g c = λ files told.
     (λ (h : with_reference sources (n + 1) r p ≡ Err cause). here ∙ names_last sources (n + 1) r (drop (n + 1) all) p cause h)
     (c.in_err-add_reference.ensures.gathered files (tells_at place all _ _ files n r c.loop-reference.invariant.held (inl told) c.in-Some.ensures))
     (c.in_err-add_reference.ensures.asked files (c.loop-reference.invariant.held ∙ told)))
-
-pub returns-in_err-add_reference-clause-faults : goal.returns-in_err-add_reference-clause-faults
-returns-in_err-add_reference-clause-faults g c =
-    let e = err_from_is_err_and c.from_residual.result c.from_residual.ensures.1 in
-    rw (e.1, e.2) (counted_on (Err c.in_err-add_reference.field-0.0) _ _ _ c.loop-reference.invariant.faults c.in_err-add_reference.ensures.faults)
 
 pub returns-clause-views : goal.returns-clause-views
 returns-clause-views g c = λ files tells.
