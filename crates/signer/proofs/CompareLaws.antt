@@ -1,7 +1,6 @@
 -- The views of a template and those of the document that is made of it.
-use Rattle.std.proofs.Common.{◌≡◌, ◌∙◌, ℕ, ◌+◌, ◌<◌, ◌≤◌, Bool, true, false, List, [], ◌∷◌, ◌++◌, length, drop, Option, Some, None, Result, Ok, Err, refl, ap, sym, subst, inl, inr, append-nil}
-use Rattle.std.specs.Prelude.{◌⊎◌, IfOk, if◌then◌else◌, bytes_eq}
-use Rattle.std.specs.List.{All}
+use Rattle.std.proofs.Common.{◌≡◌, ◌∙◌, ℕ, ◌+◌, Bool, true, false, List, [], ◌∷◌, ◌++◌, drop, Option, Some, None, Result, Ok, Err, refl, ap, sym, inl, inr, append-nil}
+use Rattle.std.specs.Prelude.{IfOk, if◌then◌else◌}
 use Rattle.sig_base.specs.Outcomes.{and_then, with_cause}
 use Rattle.sig_outside.specs.Told.{Held}
 use Rattle.xml_doc.specs.Rows.{RowOf}
@@ -21,7 +20,6 @@ use Rattle.transforms.specs.Values.{origin_of}
 use Rattle.transforms.specs.Views.{target_in, view_of}
 use Rattle.transforms.specs.declared.refusal.RefRefusal.{RefRefusal}
 use Rattle.transforms.specs.declared.refusal.RefRefusal.TheVariants as reason
-use Rattle.core_validate.specs.Answers.{IsNoFile}
 use Rattle.core_validate.specs.Progress.{sources_of}
 use Rattle.signer.specs.Answers.{AsksAll, FaultCounts}
 use Rattle.signer.specs.Asked.{names_compared}
@@ -31,7 +29,6 @@ use Rattle.signer.specs.Code.Filling.{AreThrough, BeginWith}
 use Rattle.signer.specs.Code.Refusals.{IsOutside, Stops, filled_cause}
 use Rattle.signer.specs.Code.Sealing.{if_fits}
 use Rattle.signer.specs.Code.Views.{Shows, TellsEach}
-use Rattle.signer.specs.declared.refusal.SignRefusal.{SignRefusal}
 use Rattle.signer.specs.declared.refusal.SignRefusal.TheVariants as refusal
 use Rattle.signer.proofs.Refusing.{grew_all}
 use Rattle.signer.proofs.SigningLaws.{filled_stops}

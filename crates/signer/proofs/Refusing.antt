@@ -1,7 +1,6 @@
 -- What refusals of steps are worth to what is made of the steps: the refusal, what was asked for, and the count of faults.
-use Rattle.std.proofs.Common.{◌≡◌, ◌∙◌, ℕ, ◌≤◌, List, [], ◌∷◌, ◌++◌, length, take, drop, Result, Ok, Err, refl, ap, sym, subst, append_assoc, append-nil, arith}
+use Rattle.std.proofs.Common.{◌≡◌, ◌∙◌, ℕ, List, [], ◌++◌, length, take, drop, Result, Ok, Err, refl, ap, sym, subst, append_assoc, append-nil, arith}
 use Rattle.std.proofs.lemmas.List.{take-append-drop, take_all, take_at}
-use Rattle.sig_base.specs.Outcomes as outcomes
 use Rattle.transforms.specs.Answers.{GrewTowards}
 use Rattle.signer.specs.Answers.{AsksAll, FaultCounts, Gives, HasOwnCause, Refuses}
 use Rattle.signer.specs.Code.Refusals.{IsOutside, IsOwnStop, Stops}

@@ -1,5 +1,5 @@
 -- The signature value: the canonical SignedInfo, its HMAC, and the bits that are kept of it.
-use Rattle.std.proofs.Common.{◌≡◌, ◌∙◌, ℕ, ◌*◌, ◌/◌, ◌≤◌, Bool, true, false, List, length, map, Option, Some, None, Result, Ok, Err, refl, ap, sym, subst, arith, encode_utf8_all}
+use Rattle.std.proofs.Common.{◌≡◌, ◌∙◌, ℕ, ◌*◌, ◌≤◌, Bool, true, List, length, map, Option, Some, None, Result, Ok, Err, refl, ap, sym, subst, arith, encode_utf8_all}
 use Rattle.std.specs.Prelude.{nat_le}
 use Rattle.std.proofs.Math.Path.{fun_ext}
 use Rattle.std.proofs.lemmas.Bool.{and_parts, leb-true}
@@ -20,7 +20,6 @@ use Rattle.transforms.specs.Steps.{octet_limit}
 use Rattle.signer.specs.Signed.{value_under}
 use Rattle.signer.specs.Code.Refusals.{Stops, filled_cause}
 use Rattle.signer.specs.Code.Sealing.{seal_by, seal_of}
-use Rattle.signer.specs.declared.refusal.SignRefusal.{SignRefusal}
 use Rattle.signer.specs.declared.refusal.SignRefusal.TheVariants as refusal
 use Rattle.signer.specs.declared.sealing.Seal.{Seal}
 use Rattle.base64.specs.GeneralPurpose.{IsBytes}

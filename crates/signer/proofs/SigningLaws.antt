@@ -1,7 +1,6 @@
 -- What each step of signing makes of the outcome, and of the names that are asked for.
-use Rattle.std.proofs.Common.{◌≡◌, ◌∙◌, ℕ, ◌<◌, Bool, true, false, List, [], ◌∷◌, ◌++◌, length, Option, Some, None, Result, Ok, Err, refl, ap, sym, subst, append-nil, inl, inr}
-use Rattle.std.specs.Prelude.{◌⊎◌, IfOk, nat_le, if◌then◌else◌}
-use Rattle.std.specs.List.{All}
+use Rattle.std.proofs.Common.{◌≡◌, ◌∙◌, ℕ, ◌<◌, Bool, true, false, List, [], ◌++◌, length, Option, Some, None, Result, Ok, Err, refl, ap, sym, subst, append-nil, inl, inr}
+use Rattle.std.specs.Prelude.{◌⊎◌, IfOk, if◌then◌else◌}
 use Rattle.sig_base.specs.Outcomes.{and_then, with_cause}
 use Rattle.sig_outside.specs.Told.{Held}
 use Rattle.digests_hmac.specs.KeyEntries.{KeyEntry}
@@ -18,16 +17,12 @@ use Rattle.dsig_fields.specs.Keys.{QuestionOf, key_of}
 use Rattle.dsig_fields.specs.Reading as elements
 use Rattle.dsig_fields.specs.Signatures.{nth_signature}
 use Rattle.dsig_fields.specs.declared.fields.Fields.{Fields}
-use Rattle.dsig_fields.specs.declared.fields.Reference.{Reference}
 use Rattle.dsig_fields.specs.declared.key.KeyChoice.{KeyChoice}
 use Rattle.dsig_fields.specs.declared.key.KeyChoice.TheVariants as choice
 use Rattle.dsig_fields.specs.declared.refusal.FieldRefusal.{FieldRefusal}
 use Rattle.dsig_fields.specs.declared.refusal.FieldRefusal.TheVariants as field
 use Rattle.transforms.specs.Asked.{names_behind, or_nothing}
-use Rattle.transforms.specs.Outcome.{canonical_signed_info}
-use Rattle.transforms.specs.Steps.{octet_limit}
-use Rattle.transforms.specs.Views.{target_in}
-use Rattle.core_validate.specs.Answers.{HasNoFile, IsNoFile}
+use Rattle.core_validate.specs.Answers.{HasNoFile}
 use Rattle.core_validate.specs.Progress.{sources_of}
 use Rattle.signer.specs.Answers.{AsksAll, Gives, TellsTemplate}
 use Rattle.signer.specs.Asked.{names_again, names_asked, names_of_fields, names_under_key}
@@ -35,7 +30,6 @@ use Rattle.signer.specs.Laws.{IsValid}
 use Rattle.signer.specs.Outcome.{choice_refusal, enough_bits, info_within, not_text, or_no_signature, outcome, outcome_of_fields, outcome_of_rows, outcome_of_views, outcome_under_key, unless, views_from}
 use Rattle.signer.specs.Signed.{signed, unsigned, value_under}
 use Rattle.signer.specs.Code.Comparing.{compared, made_outcome, names_made, names_of_comparison}
-
 use Rattle.signer.specs.Code.Reading.{IsTemplate, TemplateOf, can_be_signed, template_of, template_of_fields, template_under_key}
 use Rattle.signer.specs.Code.Refusals.{Stops, field_cause, filled_cause, read_cause}
 use Rattle.signer.specs.Code.Sealing.{seal_by, seal_of}

@@ -1,12 +1,11 @@
 -- A template that is filled in: what is written lies in order, and the Signature and its SignedInfo stand where they stood.
-use Rattle.std.proofs.Common.{◌≡◌, ◌∙◌, ℕ, zero, suc, ◌+◌, ◌<◌, ◌≤◌, true, Some, Result, Ok, List, [], ◌∷◌, ◌++◌, length, get_or, refl, sym, ap, subst, inl, inr, arith}
-use Rattle.std.specs.Prelude.{◌⊎◌, Option}
+use Rattle.std.proofs.Common.{◌≡◌, ◌∙◌, ℕ, zero, suc, ◌+◌, ◌<◌, Result, Ok, List, [], ◌∷◌, ◌++◌, length, get_or, refl, sym, ap, subst, inl, inr, arith}
+use Rattle.std.specs.Prelude.{Option}
 use Rattle.std.specs.List.{All}
 use Rattle.base64.specs.GeneralPurpose.{IsBytes}
 use Rattle.sig_outside.specs.Told.{Held}
 use Rattle.dsig_base64.specs.Loose.{base64_of}
 use Rattle.dsig_base64.proofs.Padding.{length-base64_of}
-use Rattle.digests_hmac.specs.Hash.{hmac_of}
 use Rattle.uri_refs.specs.declared.target.Place.{Place}
 use Rattle.xml_doc.specs.Rows.{RowOf}
 use Rattle.xml_read.specs.ReadOutcome.{read_outcome}
@@ -14,7 +13,7 @@ use Rattle.xml_read.specs.Spelled.{Spells}
 use Rattle.xml_read.proofs.SpelledLaws.{spells_of}
 use Rattle.row_spans.specs.RowSpans.{InOrder}
 use Rattle.row_spans.proofs.Read.{read_rows}
-use Rattle.row_fills.specs.Fillings.{CanFillAll, filled_in, filling, first_of, spans_of}
+use Rattle.row_fills.specs.Fillings.{filled_in, filling, spans_of}
 use Rattle.row_fills.proofs.InOrder.{in_order}
 use Rattle.row_fills.proofs.Info.{can_front, spelled_once}
 use Rattle.row_fills.proofs.Together.{all_together}

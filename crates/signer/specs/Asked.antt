@@ -1,8 +1,7 @@
 -- What signing asks of the folder: the files of the References in order, up to and including the first that is refused; and once the
 -- document is filled in the same again, up to the first whose view is another one.
-use Rattle.std.specs.Prelude.{ℕ, ◌+◌, List, [], ◌∷◌, ◌++◌, Option, Some, None, Result, Ok, Err, if◌then◌else◌}
+use Rattle.std.specs.Prelude.{ℕ, List, [], ◌∷◌, ◌++◌, Some, if◌then◌else◌}
 use Rattle.sig_outside.specs.Told.{Held}
-use Rattle.xml_doc.specs.Rows.{RowOf}
 use Rattle.xml_read.specs.ReadOutcome.{read_outcome}
 use Rattle.dsig_fields.specs.Fields.{fields_of}
 use Rattle.dsig_fields.specs.Keys.{QuestionOf, key_of}

@@ -1,6 +1,6 @@
 -- A template of an enveloped signature, and where it is put: this project's own template, in the element grammar of XML Signature 1.1,
 -- section 4.
-use Rattle.std.specs.Prelude.{ℕ, List, [], ◌∷◌, ◌++◌, codes, encode_utf8_all, Option, Some, None, Result, Ok, Err, if◌then◌else◌}
+use Rattle.std.specs.Prelude.{ℕ, List, [], ◌∷◌, ◌++◌, codes, encode_utf8_all, Option, Some, None, Result, Ok, if◌then◌else◌}
 use Rattle.sig_base.specs.Methods.{canon_identifier, digest_identifier, mac_identifier}
 use Rattle.sig_base.specs.Outcomes.{and_then, with_cause}
 use Rattle.sig_base.specs.declared.method.CanonMethod.TheVariants.{Exc}

@@ -93,7 +93,15 @@ fn first_changed<F: Folder>(
     let mut number = 0;
     while let Some((reference, view)) = pair_at(references, views, number as usize) {
         number += 1;
-        if !is_view(alloc, doc, signature, reference, view.bytes(), place, folder)? {
+        if !is_view(
+            alloc,
+            doc,
+            signature,
+            reference,
+            view.bytes(),
+            place,
+            folder,
+        )? {
             return Ok(Some(number));
         }
     }
@@ -121,7 +129,15 @@ fn compare_document<F: Folder>(
     let Ok(fields) = read_fields(alloc, doc, signature) else {
         return Err(SignRefusal::Memory);
     };
-    match first_changed(alloc, doc, signature, &fields.references, views, place, folder) {
+    match first_changed(
+        alloc,
+        doc,
+        signature,
+        &fields.references,
+        views,
+        place,
+        folder,
+    ) {
         Ok(None) => Ok(()),
         Ok(Some(number)) => Err(SignRefusal::CoversItself(number)),
         Err(cause) => Err(cause),

@@ -58,11 +58,7 @@ fn digest_identifier(digest: DigestMethod) -> &'static str
 }
 
 /// An empty-element tag with an Algorithm.
-fn algorithm_element(
-    alloc: Global,
-    name: &str,
-    identifier: &str,
-) -> Result<Vec<u8>, AllocError>
+fn algorithm_element(alloc: Global, name: &str, identifier: &str) -> Result<Vec<u8>, AllocError>
     ensures { IfOk result (λ text. text.items ≡ spec.algorithm_element name.now identifier.now) }
 {
     joined(

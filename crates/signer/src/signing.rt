@@ -69,10 +69,25 @@ fn fill_value<F: Folder>(
         (F.asked folder.new)) }
     ensures faults { FaultCounts result (F.faults folder.old) (F.faults folder.new) }
 {
-    let Ok(made) = filled(alloc, bytes, doc, &template.fields, views, seal.value.bytes()) else {
+    let Ok(made) = filled(
+        alloc,
+        bytes,
+        doc,
+        &template.fields,
+        views,
+        seal.value.bytes(),
+    ) else {
         return Err(SignRefusal::Memory);
     };
-    match compare_octets(alloc, made.bytes(), seal.fits, template.signature, views, place, folder) {
+    match compare_octets(
+        alloc,
+        made.bytes(),
+        seal.fits,
+        template.signature,
+        views,
+        place,
+        folder,
+    ) {
         Ok(()) => Ok(made),
         Err(cause) => Err(cause),
     }

@@ -91,7 +91,10 @@ fn documents_are_signed(rt: HostRuntime) -> Result<(), Fail> {
             "<?xml version=\"1.0\" encoding=\"UTF-8\"?>\n<Order xmlns=\"urn:o\" Id=\"k\"/>\n<!--c-->",
             "<Order xmlns=\"urn:o\" Id=\"k\"></Order>",
         ),
-        ("<p:a xmlns:p=\"urn:p\">\r\n</p:a>", "<p:a xmlns:p=\"urn:p\">\n</p:a>"),
+        (
+            "<p:a xmlns:p=\"urn:p\">\r\n</p:a>",
+            "<p:a xmlns:p=\"urn:p\">\n</p:a>",
+        ),
     ] {
         let template = template(&rt, alloc, document)?;
         let Ok(made) = filled(&rt, alloc, template.bytes()) else {
@@ -128,15 +131,28 @@ fn with(
 fn templates_are_refused(rt: HostRuntime) -> Result<(), Fail> {
     let alloc = rt.alloc();
     let template = template(&rt, alloc, "<doc>hi</doc>")?;
-    let transforms = "<ds:Transforms><ds:Transform Algorithm=\"http://www.w3.org/2000/09/xmldsig#enveloped-signature\"/>\
+    let transforms =
+        "<ds:Transforms><ds:Transform Algorithm=\"http://www.w3.org/2000/09/xmldsig#enveloped-signature\"/>\
 <ds:Transform Algorithm=\"http://www.w3.org/2001/10/xml-exc-c14n#\"/></ds:Transforms>";
     for (old, new, words) in [
         (transforms, "", "CoversItself(1)"),
-        ("<ds:DigestValue/>", "<ds:DigestValue><!--c--></ds:DigestValue>", "NotText(37)"),
-        ("<ds:SignatureValue/>", "<ds:SignatureValue>A<!--c-->A==</ds:SignatureValue>", "NotText(40)"),
+        (
+            "<ds:DigestValue/>",
+            "<ds:DigestValue><!--c--></ds:DigestValue>",
+            "NotText(37)",
+        ),
+        (
+            "<ds:SignatureValue/>",
+            "<ds:SignatureValue>A<!--c-->A==</ds:SignatureValue>",
+            "NotText(40)",
+        ),
         ("<ds:KeyName>a&amp;b</ds:KeyName>", "", "NoKey"),
         ("a&amp;b", "c", "UnknownKey"),
-        ("#hmac-sha256\"/>", "#hmac-sha256\"><ds:HMACOutputLength>120</ds:HMACOutputLength></ds:SignatureMethod>", "ShortTruncation(120)"),
+        (
+            "#hmac-sha256\"/>",
+            "#hmac-sha256\"><ds:HMACOutputLength>120</ds:HMACOutputLength></ds:SignatureMethod>",
+            "ShortTruncation(120)",
+        ),
         ("URI=\"\"", "URI=\"a.txt\"", "Reference(1, Absent)"),
         ("</doc>", "</dog>", "Read(NotWellFormed)"),
         ("ds:Signature ", "ds:Signature x=\"1\" ", "signed"),

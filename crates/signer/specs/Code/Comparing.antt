@@ -1,5 +1,5 @@
 -- The views of a template and those of the document that is made of it.
-use Rattle.std.specs.Prelude.{◌≡◌, ◌⊎◌, ◌<◌, ℕ, Bool, false, List, length, Option, Some, None, Result, Ok, Err}
+use Rattle.std.specs.Prelude.{◌≡◌, ◌⊎◌, ℕ, Bool, false, List, Option, Some, Result, Ok, Err}
 use Rattle.std.specs.List.{All}
 use Rattle.sig_base.specs.Outcomes.{and_then, with_cause}
 use Rattle.sig_outside.specs.Told.{Held}

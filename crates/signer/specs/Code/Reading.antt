@@ -1,5 +1,5 @@
 -- What is read of a template before the folder is asked for anything.
-use Rattle.std.specs.Prelude.{◌≡◌, ◌<◌, ℕ, List, length, true, Option, Some, None, Result, Ok, Err}
+use Rattle.std.specs.Prelude.{◌≡◌, ◌<◌, ℕ, List, length, true, Some, None, Result, Ok}
 use Rattle.sig_base.specs.Outcomes.{and_then, with_cause}
 use Rattle.xml_doc.specs.Rows.{RowOf}
 use Rattle.xml_read.specs.ReadOutcome.{read_outcome}

@@ -1,5 +1,5 @@
 -- The signature value that a template gets once its digests are filled in.
-use Rattle.std.specs.Prelude.{◌≡◌, ℕ, nat_le, Bool, List, length, Result, Ok, Err, if◌then◌else◌}
+use Rattle.std.specs.Prelude.{ℕ, nat_le, Bool, List, length, Result, Ok, Err, if◌then◌else◌}
 use Rattle.sig_base.specs.Outcomes.{and_then, with_cause}
 use Rattle.xml_doc.specs.Rows.{RowOf}
 use Rattle.xml_read.specs.ReadOutcome.{read_outcome}

@@ -1,6 +1,5 @@
 -- Signing in the steps of the code.
-use Rattle.std.specs.Prelude.{◌≡◌, ◌⊎◌, ℕ, List, ◌++◌, length, Option, Some, Result, Ok, Err}
-use Rattle.std.specs.List.{All}
+use Rattle.std.specs.Prelude.{◌≡◌, ◌⊎◌, ℕ, List, ◌++◌, Option, Some, Result, Ok}
 use Rattle.sig_base.specs.Outcomes.{and_then}
 use Rattle.sig_outside.specs.Told.{Held}
 use Rattle.xml_doc.specs.Rows.{RowOf}
@@ -11,10 +10,9 @@ use Rattle.core_validate.specs.Answers.{HasNoFile}
 use Rattle.core_validate.specs.Progress.{sources_of}
 use Rattle.signer.specs.Asked.{names_again}
 use Rattle.signer.specs.Outcome.{outcome_of_views, views_from}
-use Rattle.signer.specs.Signed.{signed, unsigned}
+use Rattle.signer.specs.Signed.{signed}
 use Rattle.signer.specs.Code.Comparing.{made_outcome, names_made}
 use Rattle.signer.specs.Code.Reading.{TemplateOf, template_of}
-use Rattle.signer.specs.Code.Sealing.{seal_of}
 use Rattle.signer.specs.declared.refusal.SignRefusal.{SignRefusal}
 use Rattle.signer.specs.declared.sealing.Seal.{Seal}
 

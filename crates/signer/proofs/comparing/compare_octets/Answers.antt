@@ -1,4 +1,4 @@
-use Rattle.std.proofs.Common.{◌≡◌, ◌∙◌, ◌++◌, ℕ, List, ap, sym, subst, append-nil}
+use Rattle.std.proofs.Common.{◌∙◌, ◌++◌, ℕ, List, ap, sym, subst, append-nil}
 use Rattle.xml_read.specs.ReadOutcome.{read_outcome}
 use Rattle.core_validate.specs.Progress.{sources_of}
 use Rattle.signer.specs.Answers.{AsksAll}

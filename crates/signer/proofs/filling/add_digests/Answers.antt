@@ -1,4 +1,4 @@
-use Rattle.std.proofs.Common.{◌≡◌, ◌∙◌, ◌++◌, ◌∷◌, [], ◌+◌, ◌<◌, ◌≤◌, ℕ, List, ap, sym, drop, map, length, arith}
+use Rattle.std.proofs.Common.{◌≡◌, ◌∙◌, ◌++◌, ◌∷◌, [], ◌+◌, ℕ, List, ap, sym, drop, map, arith}
 use Rattle.digests_hmac.specs.Hash.{hash}
 use Rattle.dsig_base64.specs.Loose.{base64_of}
 use Rattle.dsig_fields.specs.Fits.{ReferenceFits}

@@ -1,4 +1,4 @@
-use Rattle.std.proofs.Common.{◌≡◌, ◌∙◌, ◌++◌, [], ℕ, List, ap, sym, subst, map, length}
+use Rattle.std.proofs.Common.{◌∙◌, ◌++◌, List, ap, sym, subst, map, length}
 use Rattle.dsig_base64.specs.Loose.{base64_of}
 use Rattle.row_fills.specs.Fillings.{filling, spans_of}
 use Rattle.row_spans.specs.RowSpans.{InOrder, Span, written}

@@ -1,4 +1,4 @@
-use Rattle.std.proofs.Common.{◌≡◌, ◌∙◌, ℕ, List, [], ap, sym}
+use Rattle.std.proofs.Common.{◌∙◌, ℕ, List, [], ap, sym}
 use Rattle.signer.proofs.inserting.escaped_text.Goals as goal
 
 pub returns-in-Done : goal.returns-in-Done

@@ -1,4 +1,4 @@
-use Rattle.std.proofs.Common.{◌≡◌, ◌∙◌, ℕ, List, Vec, Global, ap}
+use Rattle.std.proofs.Common.{◌∙◌, ℕ, Vec, Global, ap}
 use Rattle.std.specs.Prelude.{codes}
 use Rattle.signer.specs.Template.{algorithm_element, signed_info_text}
 use Rattle.signer.proofs.InsertLaws.{ok_by, parts5}

@@ -1,4 +1,4 @@
-use Rattle.std.proofs.Common.{◌≡◌, ◌∙◌, ℕ, List}
+use Rattle.std.proofs.Common.{◌∙◌}
 use Rattle.signer.proofs.InsertLaws.{parts7}
 use Rattle.signer.proofs.inserting.template_text.Goals as goal
 

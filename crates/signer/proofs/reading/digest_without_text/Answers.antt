@@ -1,4 +1,4 @@
-use Rattle.std.proofs.Common.{Some, true, false, not, ◌≡◌, ◌∙◌, ◌<◌, ◌+◌, ℕ, List, length, map, drop, ap, sym, subst, arith}
+use Rattle.std.proofs.Common.{not, ◌∙◌, ◌<◌, ◌+◌, List, length, map, drop, ap, sym, arith}
 use Rattle.std.proofs.lemmas.Option.{slice_get_within}
 use Rattle.sig_base.proofs.ListLemmas.{drop-at, drop_none}
 use Rattle.std.specs.List.{find}

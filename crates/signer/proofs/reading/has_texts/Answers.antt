@@ -1,4 +1,4 @@
-use Rattle.std.proofs.Common.{◌≡◌, ◌∙◌, ◌<◌, ℕ, List, length, ap, sym, subst}
+use Rattle.std.proofs.Common.{◌∙◌, ◌<◌, ℕ, List, length, ap, sym, subst}
 use Rattle.std.specs.List.{All, list_all}
 use Rattle.xml_doc.specs.Kinds.{is_text}
 use Rattle.xml_doc.specs.Shape.{row_at}

@@ -1,4 +1,4 @@
-use Rattle.std.proofs.Common.{Some, None, [], ◌∷◌, true, false, not, cond, ◌≡◌, ◌∙◌, ℕ, List, Option, map, ap, sym, Bool}
+use Rattle.std.proofs.Common.{Some, None, [], ◌∷◌, not, cond, ◌∙◌, map, ap, sym, Bool}
 use Rattle.dsig_fields.specs.declared.fields.Reference.{Reference}
 use Rattle.signer.specs.Outcome.{has_texts}
 use Rattle.signer.proofs.PairLaws.{find_front, find_split}

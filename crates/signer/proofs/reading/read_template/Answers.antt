@@ -1,4 +1,4 @@
-use Rattle.std.proofs.Common.{Ok, Err, ◌≡◌, ◌∙◌, ℕ, List, Result, ap, sym, subst}
+use Rattle.std.proofs.Common.{Ok, Err, ◌≡◌, ◌∙◌, ℕ, List, Result, ap, sym}
 use Rattle.std.proofs.lemmas.Result.{err_from_is_err_and}
 use Rattle.sig_base.specs.Outcomes.{and_then}
 use Rattle.dsig_fields.specs.Keys.{question_of}

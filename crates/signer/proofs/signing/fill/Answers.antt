@@ -1,4 +1,4 @@
-use Rattle.std.proofs.Common.{◌≡◌, ℕ, List, Result, sym, subst}
+use Rattle.std.proofs.Common.{ℕ, List, sym, subst}
 use Rattle.dsig_fields.specs.Keys.{question_of}
 use Rattle.xml_read.specs.ReadOutcome.{read_outcome}
 use Rattle.signer.specs.Answers.{AsksAll}

@@ -1,4 +1,4 @@
-use Rattle.std.proofs.Common.{◌≡◌, ◌∙◌, ℕ, List, Ok, Err, refl, ap, sym, subst}
+use Rattle.std.proofs.Common.{ℕ, List, Ok, Err, sym, subst}
 use Rattle.dsig_fields.specs.Keys.{question_of}
 use Rattle.signer.specs.Answers.{AsksAll}
 use Rattle.signer.specs.Outcome.{outcome_of_rows}
@@ -10,8 +10,10 @@ use Rattle.signer.proofs.signing.fill_document.Goals as goal
 
 pub fill_template-requires : goal.fill_template-requires
 fill_template-requires g c =
-    record { template = is_template c.args.bytes.now c.args.doc.now (question_of c.args.question.now) (seen_template c.in-Ok.template) c.requires.read c.in-Ok.ensures.template
-    c.in-Ok.ensures.fit.fit c.in-Ok.ensures.fit.within }
+    record {
+      template = is_template c.args.bytes.now c.args.doc.now (question_of c.args.question.now) (seen_template c.in-Ok.template) c.requires.read c.in-Ok.ensures.template
+          c.in-Ok.ensures.fit.fit c.in-Ok.ensures.fit.within;
+    }
 
 pub returns-in-Ok-clause-outcome : goal.returns-in-Ok-clause-outcome
 returns-in-Ok-clause-outcome g c = λ files tells.

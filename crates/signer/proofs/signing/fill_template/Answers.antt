@@ -1,7 +1,6 @@
-use Rattle.std.proofs.Common.{◌≡◌, ◌∙◌, ◌++◌, ℕ, List, [], Ok, Err, refl, ap, sym, subst, append-nil, inl}
+use Rattle.std.proofs.Common.{◌∙◌, ℕ, List, Ok, Err, append-nil, inl}
 use Rattle.transforms.specs.Asked.{names_behind}
 use Rattle.core_validate.specs.Progress.{sources_of}
-use Rattle.signer.specs.Answers.{AsksAll}
 use Rattle.signer.specs.Outcome.{views_from}
 use Rattle.signer.specs.Code.Reading.{seen_template}
 use Rattle.signer.specs.Code.Signing.{names_behind_views, names_of_template, outcome_behind, template_outcome}

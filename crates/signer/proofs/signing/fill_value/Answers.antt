@@ -1,9 +1,9 @@
-use Rattle.std.proofs.Common.{◌≡◌, ◌∙◌, ℕ, List, Ok, Err, ap, sym, subst}
+use Rattle.std.proofs.Common.{◌∙◌, ℕ, List, Ok, ap, sym, subst}
 use Rattle.base64.specs.GeneralPurpose.{IsBytes}
 use Rattle.xml_read.specs.ReadOutcome.{read_outcome}
 use Rattle.signer.specs.Code.Comparing.{TellsMade, made_outcome}
 use Rattle.signer.specs.Code.Reading.{seen_template}
-use Rattle.signer.specs.Code.Signing.{made_by, outcome_of_seal}
+use Rattle.signer.specs.Code.Signing.{outcome_of_seal}
 use Rattle.signer.specs.Signed.{signed, unsigned}
 use Rattle.signer.proofs.Refusing.{refuses_on}
 use Rattle.signer.proofs.SealLaws.{seal_bytes}

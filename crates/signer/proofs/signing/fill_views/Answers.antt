@@ -1,4 +1,4 @@
-use Rattle.std.proofs.Common.{◌≡◌, ◌∙◌, ℕ, List, Ok, Err, refl, ap, sym, subst}
+use Rattle.std.proofs.Common.{ℕ, List, Ok, Err, sym, subst}
 use Rattle.signer.specs.Answers.{AsksAll}
 use Rattle.signer.specs.Signed.{unsigned}
 use Rattle.signer.specs.Code.Reading.{seen_template}

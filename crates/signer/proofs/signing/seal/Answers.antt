@@ -1,4 +1,4 @@
-use Rattle.std.proofs.Common.{◌≡◌, ◌∙◌, ℕ, List, [], ap, sym, subst, arith}
+use Rattle.std.proofs.Common.{◌∙◌, ℕ, List, [], ap, sym, subst, arith}
 use Rattle.sig_base.specs.Outcomes as outcomes
 use Rattle.xml_read.specs.ReadOutcome.{read_outcome}
 use Rattle.signer.specs.Code.Reading.{seen_template}

@@ -1,17 +1,15 @@
-use Rattle.std.proofs.Common.{Ok, Err, Some, None, ◌≡◌, ◌∙◌, ◌<◌, ◌≤◌, ◌+◌, ◌++◌, [], ℕ, List, length, drop, ap, sym, subst, arith, inl, refl}
+use Rattle.std.proofs.Common.{Err, ◌≡◌, ◌∙◌, ◌<◌, ◌+◌, [], length, drop, ap, sym, arith, inl}
 use Rattle.std.proofs.lemmas.Option.{slice_get_within}
 use Rattle.std.proofs.lemmas.Result.{err_from_is_err_and}
 use Rattle.sig_base.proofs.ListLemmas.{drop-at, drop_none}
-use Rattle.dsig_fields.specs.Fits.{ReferenceFits}
-use Rattle.dsig_fields.specs.declared.fields.Reference.{Reference}
 use Rattle.transforms.specs.Answers.{names_of}
 use Rattle.transforms.specs.Asked.{names_behind}
 use Rattle.transforms.specs.Views.{target_in}
 use Rattle.core_validate.specs.Progress.{sources_of}
 use Rattle.signer.specs.Code.Views.{with_reference}
 use Rattle.signer.specs.Outcome.{views_from}
-use Rattle.signer.proofs.Refusing.{asked_refused, counted_on, refuses_on, ended, rest_begins, rest_goes}
-use Rattle.signer.proofs.ViewLaws.{all_at, behind, behind_all, behind_nothing, behind_one, behind_refused, named, names_last, names_none, names_one, names_split, next_of, tells_at}
+use Rattle.signer.proofs.Refusing.{asked_refused, refuses_on, ended, rest_goes}
+use Rattle.signer.proofs.ViewLaws.{behind, behind_all, behind_one, behind_refused, named, names_last, names_none, names_one, names_split, next_of, tells_at}
 use Rattle.signer.proofs.views.views_of.Goals as goal
 
 pub loop-reference-preserved : goal.loop-reference-preserved

@@ -1,11 +1,9 @@
-use Rattle.std.proofs.Common.{Ok, Err, Result, ◌≡◌, ◌∙◌, sym}
 use Rattle.transforms.specs.Answers.{names_of}
 use Rattle.transforms.specs.Views.{target_in}
 use Rattle.core_validate.specs.Progress.{sources_of}
-use Rattle.signer.specs.Code.Refusals.{reference_cause}
 use Rattle.signer.specs.Code.Views.{with_limited, with_reference}
 use Rattle.signer.proofs.Refusing.{asked_behind}
-use Rattle.signer.proofs.ViewLaws.{asked_as, counted_as, limits_give, own_cause, with_its_view, without_view}
+use Rattle.signer.proofs.ViewLaws.{asked_as, limits_give, with_its_view, without_view}
 use Rattle.signer.proofs.views.Gathered.add_reference.Goals as goal
 
 pub returns-in-Ok-clause-gathered : goal.returns-in-Ok-clause-gathered
