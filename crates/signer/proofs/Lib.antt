@@ -12,3 +12,4 @@ pub mod SigningLaws
 pub mod SealLaws
 pub mod CompareLaws
 pub mod InsertLaws
+pub mod Worked

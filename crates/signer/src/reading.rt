@@ -1,15 +1,14 @@
 //! What is read of a template before the folder is asked for anything: the Signature, its fields and its key, and whether it can be
 //! filled in.
 
-ghost use Rattle.std.specs.Prelude.{◌≡◌, ◌<◌, ◌-◌, ◌*◌, ℕ, not, length, map, IfOk, true};
-ghost use Rattle.std.specs.List.{find, list_all};
+ghost use Rattle.std.specs.Prelude.{◌≡◌, ◌<◌, not, length, map, IfOk, true};
+ghost use Rattle.std.specs.List.{find};
 ghost use Rattle.sig_base.specs.Outcomes.{Gives};
 ghost use Rattle.xml_doc.specs.Kinds.{is_text};
 ghost use Rattle.xml_doc.specs.Shape.{row_at};
 ghost use Rattle.dsig_fields.specs.Fits.{FieldsFit};
 ghost use Rattle.dsig_fields.specs.Holds as holds;
 ghost use Rattle.dsig_fields.specs.Keys.{question_of};
-ghost use Rattle.dsig_fields.specs.Reading.{children};
 ghost use Rattle.dsig_fields.specs.declared.fields.Reference.{Reference};
 ghost use Rattle.signer.specs.Code.Reading as code;
 ghost use Rattle.signer.specs.Code.Refusals.{Stops};

@@ -1,8 +1,7 @@
 //! The signature value: the HMAC over the canonical SignedInfo of the template with its digests filled in (XML Signature 1.1
 //! §3.1.2).
 
-ghost use Rattle.std.specs.Prelude.{◌≡◌, ◌<◌, ◌≤◌, ◌-◌, ◌/◌, ◌*◌, ◌^◌, ℕ, List, Some, Ok, true, false, nat_le, length, map, min, IfOk, encode_utf8_all};
-ghost use Rattle.sig_base.specs.Methods.{is_exclusive};
+ghost use Rattle.std.specs.Prelude.{◌≡◌, ◌<◌, ◌≤◌, ◌*◌, ℕ, List, Some, Ok, true, nat_le, length, map, IfOk, encode_utf8_all};
 ghost use Rattle.sig_base.specs.Outcomes.{Gives};
 ghost use Rattle.xml_doc.specs.Rows.{RowOf};
 ghost use Rattle.xml_read.specs.ReadOutcome.{read_outcome};
@@ -10,14 +9,11 @@ ghost use Rattle.node_sets.specs.Members.{has};
 ghost use Rattle.c14n_methods.specs.Canons.{Canons};
 ghost use Rattle.c14n_methods.specs.Limits.{octet_limit};
 ghost use Rattle.c14n_methods.specs.Methods.{canonical_form};
-ghost use Rattle.digests_hmac.specs.Hash.{digest_size, hash_of, hmac_of, kept};
-ghost use Rattle.dsig_fields.specs.Fits.{FieldsFit, PrefixesFit};
+ghost use Rattle.digests_hmac.specs.Hash.{hmac_of, kept};
+ghost use Rattle.dsig_fields.specs.Fits.{PrefixesFit};
 ghost use Rattle.dsig_fields.specs.Lengths.{may_keep};
-ghost use Rattle.dsig_fields.specs.Holds as holds;
 ghost use Rattle.signer.specs.Code.Refusals.{Stops};
 ghost use Rattle.signer.specs.Code.Sealing as code;
-ghost use Rattle.transforms.specs.Outcome.{canonical_signed_info};
-ghost use Rattle.signer.specs.Signed.{value_under};
 
 use crate::reading::value_bits;
 use crate::refusal::{SignRefusal, filled_cause};

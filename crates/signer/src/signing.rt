@@ -1,5 +1,5 @@
 //! A template is filled in.
-ghost use Rattle.std.specs.Prelude.{◌≡◌, ℕ, Ok, length, IfOk};
+ghost use Rattle.std.specs.Prelude.{◌≡◌, Ok, IfOk};
 ghost use Rattle.std.specs.Option.{ForSome};
 ghost use Rattle.sig_base.specs.Outcomes as outcomes;
 ghost use Rattle.sig_outside.specs.Told.{Held};

@@ -1,6 +1,6 @@
 //! The views of a template's References, one behind the other (XML Signature 1.1 §3.1.1).
 
-ghost use Rattle.std.specs.Prelude.{◌≡◌, ◌+◌, ◌<◌, ◌≤◌, ℕ, List, [], ◌∷◌, ◌++◌, Some, length, IfOk, OnOk};
+ghost use Rattle.std.specs.Prelude.{◌≡◌, ◌<◌, ◌≤◌, Some, length, IfOk, OnOk};
 ghost use Rattle.std.specs.List.{All};
 ghost use Rattle.std.specs.Option.{ForSome};
 ghost use Rattle.sig_base.specs.Outcomes as outcomes;
@@ -13,7 +13,7 @@ ghost use Rattle.transforms.specs.Values.{origin_of};
 ghost use Rattle.transforms.specs.Views.{target_in, view_of};
 ghost use Rattle.core_validate.specs.Progress.{sources_of};
 ghost use Rattle.signer.specs.Answers.{AsksAll, FaultCounts, Gives};
-ghost use Rattle.signer.specs.Code.Refusals.{IsOwnStop, Stops};
+ghost use Rattle.signer.specs.Code.Refusals.{IsOwnStop};
 ghost use Rattle.signer.specs.Code.Views as code;
 ghost use Rattle.signer.specs.Outcome.{views_from};
 
