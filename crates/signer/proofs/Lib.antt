@@ -6,3 +6,12 @@ pub mod Premises
 pub mod Made
 pub mod Refilled
 pub mod Again
+pub mod Refusing
+pub mod PairLaws
+pub mod ViewLaws
+pub mod Stands
+pub mod SigningLaws
+pub mod SealLaws
+pub mod CompareLaws
+pub mod InsertLaws
+pub mod Worked

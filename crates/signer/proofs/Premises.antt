@@ -1,5 +1,5 @@
 -- The elements that are filled in can be: they rise, they have text alone, and base64 may stand in them.
-use Rattle.std.proofs.Common.{◌≡◌, ℕ, zero, suc, ◌+◌, ◌-◌, ◌<◌, ◌≤◌, ◌&&◌, ◌||◌, Bool, true, false, not, cond, Some, None, Ok, List, [], ◌∷◌, ◌++◌, length, map, refl, sym, ap, subst, ◌∙◌, arith, inl, inr}
+use Rattle.std.proofs.Common.{◌≡◌, ℕ, zero, suc, ◌+◌, ◌<◌, ◌≤◌, ◌&&◌, ◌||◌, Bool, true, false, not, cond, Some, None, Ok, List, [], ◌∷◌, ◌++◌, length, map, refl, sym, ap, subst, ◌∙◌, arith, inl, inr}
 use Rattle.std.specs.List.{filter, find, list_all, range_with_len}
 use Rattle.std.proofs.lemmas.Bool.{cases_eq, false≢true, and_parts}
 use Rattle.base64.specs.GeneralPurpose.{IsBytes}
@@ -65,7 +65,7 @@ all_passing p q a (suc n) h y ge lt passes = elim (cases_eq y a) [
     later true k = (and_parts (p a) (list_all p (filter q (range_with_len (a + 1) n))) k).1
     later false k = k
 
-none_long : (xs : List ℕ) → length xs ≡ 0 → xs ≡ []
+pub none_long : (xs : List ℕ) → length xs ≡ 0 → xs ≡ []
 none_long [] e = refl
 none_long (x ∷ xs) e = absurd (omega (arith, e))
 
@@ -97,7 +97,7 @@ module _ (rows : List RowOf) (shape : IsWellShaped rows) where
       go true e = refl
       go false e = e
 
-  can_from : (a b : ℕ) (fs : List Filling) → a ≤ b → CanFillAll rows b fs → CanFillAll rows a fs
+  pub can_from : (a b : ℕ) (fs : List Filling) → a ≤ b → CanFillAll rows b fs → CanFillAll rows a fs
   can_from a b [] le can = tt
   can_from a b (f ∷ fs) le can = (omega (arith, le, can.0), can.1, can.2)
 

@@ -4,11 +4,24 @@
 //! written over its DigestValues, and the HMAC of its canonical SignedInfo over its SignatureValue. No other octet changes.
 #![tactic(auto)]
 
+mod comparing;
+mod filling;
+mod inserting;
 mod laws;
+mod reading;
 mod refusal;
+mod sealing;
+mod signing;
+mod template;
+#[cfg(test)]
+mod tests;
+mod views;
 
+pub use crate::inserting::insert_template;
 pub use crate::laws::{
     filling_again_changes_nothing, what_is_filled_in_is_spelled, what_is_signed_holds,
     what_is_signed_is_valid,
 };
 pub use crate::refusal::SignRefusal;
+pub use crate::signing::fill;
+pub use crate::template::{TemplateOptions, TemplateRefusal};
