@@ -25,7 +25,11 @@ use Rattle.core_validate.specs.Answers as answers
 use Rattle.transforms.specs.declared.outcome.Report.{Report}
 use Rattle.transforms.specs.declared.outcome.ValidateRefusal.{ValidateRefusal}
 use Rattle.transforms.specs.declared.outcome.ValidateRefusal.TheVariants as validation
-use Rattle.xmldsig.specs.Stops.{catalog_stop, eval_stop, keys_stop, read_stop, syntax_stop, validate_stop}
+use Rattle.signer.specs.Answers as signing
+use Rattle.signer.specs.declared.template.TemplateRefusal.{TemplateRefusal}
+use Rattle.signer.specs.declared.template.TemplateRefusal.TheVariants as template
+use Rattle.xmldsig.specs.Stops.{catalog_stop, eval_stop, keys_stop, read_stop, syntax_stop, template_stop, validate_stop}
+use Rattle.xmldsig.specs.Template.{template_cause}
 use Rattle.xmldsig.specs.Code.Form.{Selects}
 use Rattle.xmldsig.specs.Code.Stops.{Answers, AsksAll, StopCounts}
 use Rattle.xmldsig.specs.declared.ending.Refusal.TheVariants as refusal
@@ -175,3 +179,14 @@ validate_counts validation.OctetsTooLong before now e = e
 validate_counts (validation.Reference i target) before now e = e
 validate_counts validation.FetchFailed before now e = e
 validate_counts validation.Memory before now e = e
+
+-- ---- a template
+
+pub template_stopped : (outcome : Result (List ℕ) TemplateRefusal) (cause : TemplateRefusal) → signing.TemplateRefuses cause outcome
+    → Answers {A = List ℕ} (Err (template_stop cause)) (with_cause template_cause outcome)
+template_stopped outcome (template.Read cause) e = ap (with_cause template_cause) e
+template_stopped outcome template.Memory e = tt
+
+pub template_calm : (A : Type 0) (cause : TemplateRefusal) → let r : Result A Stop = Err (template_stop cause) in r ≢ Err stop.ReadFault
+template_calm A (template.Read cause) = λ e. cc
+template_calm A template.Memory = λ e. cc

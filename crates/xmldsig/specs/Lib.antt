@@ -7,6 +7,7 @@ pub mod Outside
 pub mod Printed
 pub mod Status
 pub mod Stops
+pub mod Template
 pub mod Texts
 pub mod Validation
 pub mod Code

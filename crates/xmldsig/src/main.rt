@@ -16,6 +16,7 @@ mod settle;
 #[cfg(test)]
 mod signed_tests;
 mod stop;
+mod template;
 #[cfg(test)]
 mod tests;
 mod top;

@@ -6,6 +6,7 @@ use crate::ending::Refusal;
 use core_validate::ValidateRefusal;
 use digests_hmac::KeyFault;
 use sig_base::NoMemory;
+use signer::TemplateRefusal;
 use uri_refs::CatalogFault;
 use xml_read::ReadRefusal;
 use xpath_eval::EvalRefusal;
@@ -92,6 +93,15 @@ impl Stop {
             ValidateRefusal::FetchFailed => Stop::ReadFault,
             ValidateRefusal::Memory => Stop::Memory,
             _ => Stop::Refused(Refusal::Validate(cause)),
+        }
+    }
+    /// Why a document that gets no template stops a job.
+    pub(crate) fn by_template(cause: TemplateRefusal) -> Stop
+        ensures { result ≡ spec.template_stop cause }
+    {
+        match cause {
+            TemplateRefusal::Memory => Stop::Memory,
+            TemplateRefusal::Read(cause) => Stop::Refused(Refusal::Read(cause)),
         }
     }
 }

@@ -20,9 +20,7 @@ returns-in-Sign g c =
     c.deliver_refusal-in-Sign.ensures (λ files. rw c.in-Sign.is refl) (λ files. rw c.in-Sign.is refl)
 
 pub returns-in-Template : goal.returns-in-Template
-returns-in-Template g c =
-    unbuilt_settled g.K.ViewKeeper.pairs g.K.ViewKeeper.faults c.args.job _ c.deliver_refusal-in-Template.result _ _
-    c.deliver_refusal-in-Template.ensures (λ files. rw c.in-Template.is refl) (λ files. rw c.in-Template.is refl)
+returns-in-Template g c = rw c.in-Template.is c.settle_template.ensures
 
 pub returns-in-SelfTest : goal.returns-in-SelfTest
 returns-in-SelfTest g c =
