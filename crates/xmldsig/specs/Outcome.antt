@@ -9,6 +9,7 @@ use Rattle.transforms.specs.declared.outcome.Report.TheVariants as verdict
 use Rattle.job_words.specs.declared.job.Job.{Job}
 use Rattle.job_words.specs.declared.job.Job.TheVariants as job
 use Rattle.xmldsig.specs.Form.{form_outcome}
+use Rattle.xmldsig.specs.Sign.{signing_names, signing_outcome}
 use Rattle.xmldsig.specs.Template.{options_for, template_outcome}
 use Rattle.xmldsig.specs.Validation.{validation_names, validation_outcome}
 use Rattle.xmldsig.specs.declared.ending.Refusal.{Refusal}
@@ -27,6 +28,7 @@ is_validation other = false
 
 abbrev pub gives_octets : Job → Bool
 gives_octets (job.Canon doc method id xpath prefixes) = true
+gives_octets (job.Sign asked) = true
 gives_octets (job.Template doc mac digest key) = true
 gives_octets other = false
 
@@ -46,6 +48,7 @@ abbrev pub run_outcome : Job → Held → Result Answer Refusal
 run_outcome (job.Validate asked views manifests) files =
     if manifests then Err refusal.NotBuilt else reported (validation_outcome asked (is_some views) files)
 run_outcome (job.Canon doc method id xpath prefixes) files = written (form_outcome doc method id xpath prefixes files)
+run_outcome (job.Sign asked) files = written (signing_outcome asked files)
 run_outcome (job.Template doc mac digest key) files = written (template_outcome doc (options_for mac digest key) files)
 run_outcome other files = Err refusal.NotBuilt
 
@@ -53,6 +56,7 @@ run_outcome other files = Err refusal.NotBuilt
 abbrev pub names_asked : Job → Held → List (List ℕ)
 names_asked (job.Validate asked views manifests) files = if manifests then [] else validation_names asked (is_some views) files
 names_asked (job.Canon doc method id xpath prefixes) files = encode_utf8_all doc ∷ []
+names_asked (job.Sign asked) files = signing_names asked files
 names_asked (job.Template doc mac digest key) files = encode_utf8_all doc ∷ []
 names_asked other files = []
 

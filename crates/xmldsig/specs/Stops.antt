@@ -11,6 +11,8 @@ use Rattle.xpath_eval.specs.declared.refusal.EvalRefusal.{EvalRefusal}
 use Rattle.xpath_eval.specs.declared.refusal.EvalRefusal.TheVariants as eval
 use Rattle.transforms.specs.declared.outcome.ValidateRefusal.{ValidateRefusal}
 use Rattle.transforms.specs.declared.outcome.ValidateRefusal.TheVariants as validation
+use Rattle.signer.specs.declared.refusal.SignRefusal.{SignRefusal}
+use Rattle.signer.specs.declared.refusal.SignRefusal.TheVariants as signing
 use Rattle.signer.specs.declared.template.TemplateRefusal.{TemplateRefusal}
 use Rattle.signer.specs.declared.template.TemplateRefusal.TheVariants as template
 use Rattle.xmldsig.specs.declared.ending.Refusal.TheVariants as refusal
@@ -42,6 +44,12 @@ abbrev pub validate_stop : ValidateRefusal → Stop
 validate_stop validation.FetchFailed = stop.ReadFault
 validate_stop validation.Memory = stop.Memory
 validate_stop cause = stop.Refused (refusal.Validate cause)
+
+abbrev pub sign_stop : SignRefusal → Stop
+sign_stop signing.FetchFailed = stop.ReadFault
+sign_stop signing.Memory = stop.Memory
+sign_stop (signing.Read cause) = stop.Refused (refusal.Read cause)
+sign_stop cause = stop.Refused (refusal.Sign cause)
 
 abbrev pub template_stop : TemplateRefusal → Stop
 template_stop template.Memory = stop.Memory

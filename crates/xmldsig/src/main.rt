@@ -13,6 +13,7 @@ mod print;
 mod refusals;
 mod report;
 mod settle;
+mod sign;
 #[cfg(test)]
 mod signed_tests;
 mod stop;

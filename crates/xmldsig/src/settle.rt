@@ -12,6 +12,7 @@ use crate::ending::{Ending, Refusal};
 use crate::form::{Form, find_form};
 use crate::refusals::line_of;
 use crate::report::text_of;
+use crate::sign::make_signed;
 use crate::stop::Stop;
 use crate::template::make_template;
 use crate::validation::find_report;
@@ -113,6 +114,20 @@ fn settle_form<F: Folder, K: ViewKeeper>(
     deliver_octets(alloc, find_form(alloc, &doc, &form, folder))
 }
 
+/// What a template that is filled in comes to.
+fn settle_signing<F: Folder, K: ViewKeeper>(
+    alloc: Global,
+    asked: Asked,
+    folder: &mut F,
+    keepers: &mut Vec<K>,
+) -> Ending
+    ensures { Settled K.pairs K.faults (Some (named.Sign asked)) (F.held folder.old) result
+        (asking F.asked F.faults folder.old) (asking F.asked F.faults folder.new) keepers.old.items keepers.new.items }
+{
+    let _ = keepers;
+    deliver_octets(alloc, make_signed(alloc, asked, folder))
+}
+
 /// What a template in a document comes to.
 fn settle_template<F: Folder, K: ViewKeeper>(
     alloc: Global,
@@ -165,7 +180,7 @@ fn settle_job<F: Folder, K: ViewKeeper>(
             };
             settle_form(alloc, doc, form, folder, keepers)
         }
-        Job::Sign { asked: _asked } => deliver_refusal(alloc, Refusal::NotBuilt),
+        Job::Sign { asked } => settle_signing(alloc, asked, folder, keepers),
         Job::Template {
             doc,
             mac,

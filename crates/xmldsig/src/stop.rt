@@ -6,7 +6,7 @@ use crate::ending::Refusal;
 use core_validate::ValidateRefusal;
 use digests_hmac::KeyFault;
 use sig_base::NoMemory;
-use signer::TemplateRefusal;
+use signer::{SignRefusal, TemplateRefusal};
 use uri_refs::CatalogFault;
 use xml_read::ReadRefusal;
 use xpath_eval::EvalRefusal;
@@ -95,6 +95,18 @@ impl Stop {
             _ => Stop::Refused(Refusal::Validate(cause)),
         }
     }
+    /// Why a template that isn't signed stops a job.
+    pub(crate) fn by_signing(cause: SignRefusal) -> Stop
+        ensures { result ≡ spec.sign_stop cause }
+    {
+        match cause {
+            SignRefusal::FetchFailed => Stop::ReadFault,
+            SignRefusal::Memory => Stop::Memory,
+            SignRefusal::Read(cause) => Stop::Refused(Refusal::Read(cause)),
+            _ => Stop::Refused(Refusal::Sign(cause)),
+        }
+    }
+
     /// Why a document that gets no template stops a job.
     pub(crate) fn by_template(cause: TemplateRefusal) -> Stop
         ensures { result ≡ spec.template_stop cause }
