@@ -1,8 +1,7 @@
 -- The base and the key are those that their texts spell.
-use Rattle.std.proofs.Common.{◌≡◌, refl, List, ℕ, [], ◌∷◌, codes, chars, Ok}
+use Rattle.std.proofs.Common.{◌≡◌, refl, [], codes, Ok}
 use Rattle.std.specs.Char.{encode_utf8}
-use Rattle.std.specs.List.{range_with_len}
-use Rattle.std.specs.Str.{is_utf8}
+use Rattle.std.specs.Str.{chars, is_utf8}
 use Rattle.url.proofs.OnLiterals.{url_on_literals}
 use Rattle.sig_base.specs.Lines.{lines_of, lines_read}
 use Rattle.digests_hmac.specs.KeyLines.{octets_of_digits}
