@@ -1,5 +1,5 @@
 -- The line of a self-test.
-use Rattle.std.proofs.Common.{◌≡◌, ◌∙◌, ap, sym, ℕ, List, length, map, sum, Result, Ok, Err}
+use Rattle.std.proofs.Common.{◌≡◌, ◌∙◌, ap, sym, ℕ, List, length, map, sum, Result, Ok}
 use Rattle.sig_base.specs.Outcomes.{and_then, with_cause}
 use Rattle.sig_outside.specs.Told.{no_files}
 use Rattle.dsig_fields.specs.Keys.{QuestionOf}
@@ -9,7 +9,7 @@ use Rattle.xml_doc.specs.Rows.{RowOf}
 use Rattle.core_validate.specs.Reached.{Reached}
 use Rattle.signer.specs.Laws.{IsValid}
 use Rattle.self_test.specs.Code.Causes.{HasFewOctets}
-use Rattle.self_test.specs.Outcome.{IsLine, line_of, rows_validated, told, validated}
+use Rattle.self_test.specs.Outcome.{IsLine, line_of, rows_validated, told}
 use Rattle.self_test.specs.Question.{question}
 use Rattle.self_test.specs.declared.refusal.TestRefusal.{TestRefusal}
 use Rattle.self_test.specs.declared.refusal.TestRefusal.TheVariants as refusal

@@ -1,5 +1,5 @@
 -- Refusals of the parts of a self-test are its own, and so is that of a first part.
-use Rattle.std.proofs.Common.{◌≡◌, ap, refl, List, ℕ, Result, Ok, Err}
+use Rattle.std.proofs.Common.{◌≡◌, ap, refl, List, ℕ, Result, Ok}
 use Rattle.sig_base.specs.Outcomes.{and_then, with_cause}
 use Rattle.transforms.specs.declared.outcome.Report.{Report}
 use Rattle.transforms.specs.declared.outcome.ValidateRefusal.{ValidateRefusal}

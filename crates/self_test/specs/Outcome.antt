@@ -2,7 +2,6 @@
 use Rattle.std.specs.Prelude.{◌≡◌, ℕ, List, [], ◌++◌, length, sum, codes, decimal, Result, Ok, Err}
 use Rattle.sig_base.specs.Outcomes as outcomes
 use Rattle.sig_base.specs.Outcomes.{and_then, with_cause}
-use Rattle.sig_base.specs.declared.lists.Views.{Views}
 use Rattle.sig_outside.specs.Told.{no_files}
 use Rattle.xml_doc.specs.Rows.{RowOf}
 use Rattle.xml_read.specs.ReadOutcome.{read_outcome}

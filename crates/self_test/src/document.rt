@@ -40,7 +40,6 @@ pub(crate) fn reference_count(paragraphs: u32) -> u32
 }
 
 /// Writes so many paragraphs.
-#[tactic(auto, using(crate::proofs::Pieces::one_more))]
 fn push_paragraphs(alloc: Global, count: u32, text: &mut String) -> Result<(), NoMemory>
     ensures { OnOk result (string_bytes text.new ≡ string_bytes text.old ++ spec.for_each spec.paragraph count) }
 {
@@ -51,7 +50,6 @@ fn push_paragraphs(alloc: Global, count: u32, text: &mut String) -> Result<(), N
 }
 
 /// Writes so many References.
-#[tactic(auto, using(crate::proofs::Pieces::one_more))]
 fn push_references(alloc: Global, count: u32, text: &mut String) -> Result<(), NoMemory>
     ensures { OnOk result (string_bytes text.new ≡ string_bytes text.old ++ spec.for_each spec.reference count) }
 {

@@ -1,8 +1,10 @@
 //! What a self-test asks.
 ghost use Rattle.std.specs.Prelude.{◌≡◌, IfOk};
+ghost use Rattle.dsig_fields.specs.Keys.{question_of};
 ghost use Rattle.self_test.specs.Question as spec;
 
 use digests_hmac::KeyTable;
+use dsig_fields::Question;
 use sig_base::NoMemory;
 use std::alloc::Global;
 use uri_refs::{Base, Catalog, Place};
@@ -48,4 +50,19 @@ pub(crate) fn place(alloc: Global) -> Result<Place, NoMemory>
     let base = base(alloc)?;
     let catalog = catalog(alloc)?;
     Ok(Place { base, catalog })
+}
+
+/// The question: the first Signature, under the only key, with its views kept.
+pub(crate) fn ask<'q>(keys: &'q KeyTable, place: &'q Place) -> Question<'q>
+    requires keys { keys.now ≡ spec.keys }
+    requires place { place.now ≡ spec.place }
+    ensures { question_of result ≡ spec.question }
+{
+    Question {
+        index: 1,
+        key_name: None,
+        keys,
+        place,
+        keep_views: true,
+    }
 }

@@ -1,5 +1,5 @@
 //! A document is signed, and what is signed is validated.
-ghost use Rattle.std.specs.Prelude.{◌≡◌, ◌≤◌, IfOk, sum};
+ghost use Rattle.std.specs.Prelude.{◌≡◌, ◌≤◌, IfOk, string_bytes, sum};
 ghost use Rattle.sig_outside.specs.Told.{no_files};
 ghost use Rattle.transforms.specs.Outcome.{total_limit};
 ghost use Rattle.dsig_fields.specs.Keys.{question_of};
@@ -9,7 +9,7 @@ ghost use Rattle.self_test.specs.Outcome as spec;
 ghost use Rattle.self_test.specs.Question as asked;
 
 use crate::document::{document, reference_count};
-use crate::question::{keys, place};
+use crate::question::{ask, keys, place};
 use crate::refusal::TestRefusal;
 use bumpalo::Bump;
 use core_validate::{Report, validate};
@@ -77,41 +77,31 @@ fn total(lengths: &Numbers) -> u64
 }
 
 /// The line of a document that is valid.
-fn line(alloc: Global, paragraphs: u32, octets: u64, bytes: u64) -> Result<Octets, NoMemory>
-    ensures { IfOk result (λ line. line ≡ spec.line paragraphs octets bytes) }
+fn line(alloc: Global, paragraphs: u32, octets: u64, bytes: u64) -> Result<String, NoMemory>
+    ensures { IfOk result (λ line. string_bytes line ≡ spec.line paragraphs octets bytes) }
 {
     let references = reference_count(paragraphs);
-    let text = format!(in alloc;
+    Ok(format!(in alloc;
         "selftest {} references {} octets {} bytes {} valid\n",
-        paragraphs,
-        references,
-        octets,
-        bytes
-    )?;
-    Ok(Octets::from_vec(text.into_bytes()))
+        paragraphs, references, octets, bytes
+    )?)
 }
 
 /// The line of a document with this report. What is signed is always valid.
-fn line_of(
-    alloc: Global,
-    paragraphs: u32,
-    made: &[u8],
-    report: &Report,
-) -> Result<Octets, NoMemory>
+fn line_of(alloc: Global, paragraphs: u32, made: &[u8], report: &Report) -> Result<Octets, NoMemory>
     requires { code.HasFewOctets report.now }
     ensures { IfOk result (λ line. line ≡ spec.line_of paragraphs made.now report.now) }
 {
-    match report {
-        Report::Valid(views) => line(
-            alloc,
-            paragraphs,
-            total(&views.lengths),
-            made.len() as u64,
-        ),
-        Report::SignatureDiffers | Report::ShortTruncation(_) | Report::DigestsDiffer(_) => {
-            Ok(Octets::new(alloc))
+    let text = match report {
+        Report::Valid(views) => {
+            let octets = total(&views.lengths);
+            line(alloc, paragraphs, octets, made.len() as u64)?
         }
-    }
+        Report::SignatureDiffers | Report::ShortTruncation(_) | Report::DigestsDiffer(_) => {
+            String::new(alloc)
+        }
+    };
+    Ok(Octets::from_vec(text.into_bytes()))
 }
 
 /// Validates what is signed, and tells what it came to.
@@ -138,13 +128,7 @@ pub fn self_test(alloc: Global, paragraphs: u32) -> Result<Octets, TestRefusal>
 {
     let keys = keys(alloc)?;
     let place = place(alloc)?;
-    let question = Question {
-        index: 1,
-        key_name: None,
-        keys: &keys,
-        place: &place,
-        keep_views: true,
-    };
+    let question = ask(&keys, &place);
     let template = document(alloc, paragraphs)?;
     let made = signed(alloc, template.as_bytes(), &question)?;
     told(alloc, paragraphs, made.bytes(), &question)

@@ -17,8 +17,8 @@ returns-in-Ok-clause-outcome c =
 pub returns-in-Ok-clause-few : goal.returns-in-Ok-clause-few
 returns-in-Ok-clause-few c = few_octets c.args.doc.now (question_of c.args.question.now) c.in-Ok.report c.in-Ok.ensures.reached
 
-pub returns-in-Err-clause-outcome : goal.returns-in-Err-clause-outcome
-returns-in-Err-clause-outcome c =
+pub returns-clause-outcome : goal.returns-clause-outcome
+returns-clause-outcome c =
     rw c.by_validation.ensures
     (validate_refused (outcome c.args.doc.now question no_files) c.in-Err.cause
     (rw c.requires at (c.in-Err.ensures.outcome no_files (inl (tells_nothing _ c.new-folder.ensures)))))

@@ -15,8 +15,8 @@ returns-in-Ok-clause-outcome c =
 pub returns-in-Ok-clause-valid : goal.returns-in-Ok-clause-valid
 returns-in-Ok-clause-valid c = rw c.requires at (c.in-Ok.ensures.valid no_files (inl (tells_nothing _ c.new-folder.ensures)))
 
-pub returns-in-Err-clause-outcome : goal.returns-in-Err-clause-outcome
-returns-in-Err-clause-outcome c =
+pub returns-clause-outcome : goal.returns-clause-outcome
+returns-clause-outcome c =
     rw c.by_signing.ensures
     (sign_refused (outcome c.args.template.now question no_files) c.in-Err.cause
     (rw c.requires at (c.in-Err.ensures.outcome no_files (inl (tells_nothing _ c.new-folder.ensures)))))
