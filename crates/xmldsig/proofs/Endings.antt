@@ -1,10 +1,8 @@
 -- What the words come to, by their endings.
-use Rattle.std.proofs.Common.{◌≡◌, ◌+◌, ◌-◌, ◌++◌, ◌∙◌, ap, sym, refl, arith, ℕ, true, false, List, [], ◌∷◌, length, take, cond, nat_lt, not, Option, Some, None, is_some, IsTrue, Result, Ok, Err, encode_utf8_all}
+use Rattle.std.proofs.Common.{◌≡◌, ◌+◌, ◌-◌, ◌++◌, ◌∙◌, ap, sym, refl, arith, ℕ, true, List, [], length, take, cond, nat_lt, Option, Some, None, Result, Ok, Err, encode_utf8_all}
 use Rattle.std.specs.Option.{ForSome}
 use Rattle.std.proofs.lemmas.List.{take_all, append-nil}
 use Rattle.sig_base.specs.declared.lists.Views.{Views}
-use Rattle.sig_base.specs.declared.method.CanonMethod.{CanonMethod}
-use Rattle.xmldsig.specs.Form.{form_outcome}
 use Rattle.sig_outside.specs.Told.{Held}
 use Rattle.signed_views.specs.Handing.{CountsStand, Pair, EachGrew, pairs_of}
 use Rattle.signed_views.specs.Given.{handed_to}
@@ -14,8 +12,7 @@ use Rattle.signed_views.specs.declared.handing.Handed.TheVariants as handed
 use Rattle.transforms.specs.declared.outcome.Report.{Report}
 use Rattle.transforms.specs.declared.outcome.Report.TheVariants.{SignatureDiffers, ShortTruncation, Valid, DigestsDiffer}
 use Rattle.job_words.specs.declared.job.Job.{Job}
-use Rattle.job_words.specs.declared.job.Job.TheVariants as job
-use Rattle.xmldsig.specs.Ending.{GrewTowards, everywhere, prefixes}
+use Rattle.xmldsig.specs.Ending.{GrewTowards, everywhere}
 use Rattle.xmldsig.specs.Code.Stops.{Answers, AsksAll, StopCounts}
 use Rattle.xmldsig.specs.Code.Ending.{AsksBy, EndsWords, FolderCounts, KeepersHave, OctetsEnd, RefusalEnds, ReportEnds, Settled, Settles, SettlesWords, ViewCause}
 use Rattle.xmldsig.specs.Outcome.{Answer, gives_octets, is_built, is_validation, names_asked, pairs_by, pairs_for, reported, run_outcome, views_of, written}

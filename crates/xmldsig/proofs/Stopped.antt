@@ -25,12 +25,16 @@ use Rattle.core_validate.specs.Answers as answers
 use Rattle.transforms.specs.declared.outcome.Report.{Report}
 use Rattle.transforms.specs.declared.outcome.ValidateRefusal.{ValidateRefusal}
 use Rattle.transforms.specs.declared.outcome.ValidateRefusal.TheVariants as validation
+use Rattle.self_test.specs.Outcome as testing
+use Rattle.self_test.specs.declared.refusal.TestRefusal.{TestRefusal}
+use Rattle.self_test.specs.declared.refusal.TestRefusal.TheVariants as test
 use Rattle.signer.specs.Answers as signing
 use Rattle.signer.specs.declared.refusal.SignRefusal.{SignRefusal}
 use Rattle.signer.specs.declared.refusal.SignRefusal.TheVariants as sign
 use Rattle.signer.specs.declared.template.TemplateRefusal.{TemplateRefusal}
 use Rattle.signer.specs.declared.template.TemplateRefusal.TheVariants as template
-use Rattle.xmldsig.specs.Stops.{catalog_stop, eval_stop, keys_stop, read_stop, sign_stop, syntax_stop, template_stop, validate_stop}
+use Rattle.xmldsig.specs.Stops.{catalog_stop, eval_stop, keys_stop, read_stop, sign_stop, syntax_stop, template_stop, test_stop, validate_stop}
+use Rattle.xmldsig.specs.SelfTest.{test_cause}
 use Rattle.xmldsig.specs.Sign.{sign_cause}
 use Rattle.xmldsig.specs.Template.{template_cause}
 use Rattle.xmldsig.specs.Code.Form.{Selects}
@@ -243,3 +247,18 @@ template_stopped outcome template.Memory e = tt
 pub template_calm : (A : Type 0) (cause : TemplateRefusal) → let r : Result A Stop = Err (template_stop cause) in r ≢ Err stop.ReadFault
 template_calm A (template.Read cause) = λ e. cc
 template_calm A template.Memory = λ e. cc
+
+-- ---- a self-test
+
+pub test_stopped : (outcome : Result (List ℕ) TestRefusal) (cause : TestRefusal) → testing.Refuses cause outcome
+    → Answers {A = List ℕ} (Err (test_stop cause)) (with_cause test_cause outcome)
+test_stopped outcome (test.Sign why) e = ap (with_cause test_cause) e
+test_stopped outcome (test.Read why) e = ap (with_cause test_cause) e
+test_stopped outcome (test.Validate why) e = ap (with_cause test_cause) e
+test_stopped outcome test.Memory e = tt
+
+pub test_calm : (A : Type 0) (cause : TestRefusal) → let r : Result A Stop = Err (test_stop cause) in r ≢ Err stop.ReadFault
+test_calm A (test.Sign why) = λ e. cc
+test_calm A (test.Read why) = λ e. cc
+test_calm A (test.Validate why) = λ e. cc
+test_calm A test.Memory = λ e. cc

@@ -5,6 +5,7 @@ pub mod Headline
 pub mod Outcome
 pub mod Outside
 pub mod Printed
+pub mod SelfTest
 pub mod Sign
 pub mod Status
 pub mod Stops

@@ -18,6 +18,7 @@ mod sign;
 mod signed_tests;
 mod stop;
 mod template;
+mod testing;
 #[cfg(test)]
 mod tests;
 mod top;

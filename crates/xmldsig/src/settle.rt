@@ -15,6 +15,7 @@ use crate::report::text_of;
 use crate::sign::make_signed;
 use crate::stop::Stop;
 use crate::template::make_template;
+use crate::testing::make_line;
 use crate::validation::find_report;
 use core_validate::Report;
 use job_words::{Asked, Job, WordsFault, job_of};
@@ -143,6 +144,21 @@ fn settle_template<F: Folder, K: ViewKeeper>(
     deliver_octets(alloc, make_template(alloc, &doc, &options, folder))
 }
 
+/// What a self-test comes to. It asks the folder for nothing.
+fn settle_self_test<F: Folder, K: ViewKeeper>(
+    alloc: Global,
+    paragraphs: u32,
+    folder: &mut F,
+    keepers: &mut Vec<K>,
+) -> Ending
+    ensures { Settled K.pairs K.faults (Some (named.SelfTest paragraphs)) (F.held folder.old) result
+        (asking F.asked F.faults folder.old) (asking F.asked F.faults folder.new) keepers.old.items keepers.new.items }
+{
+    let _ = folder;
+    let _ = keepers;
+    deliver_octets(alloc, make_line(alloc, paragraphs))
+}
+
 /// What a job comes to.
 fn settle_job<F: Folder, K: ViewKeeper>(
     alloc: Global,
@@ -194,7 +210,7 @@ fn settle_job<F: Folder, K: ViewKeeper>(
             };
             settle_template(alloc, doc, options, folder, keepers)
         }
-        Job::SelfTest { .. } => deliver_refusal(alloc, Refusal::NotBuilt),
+        Job::SelfTest { paragraphs } => settle_self_test(alloc, paragraphs, folder, keepers),
     }
 }
 

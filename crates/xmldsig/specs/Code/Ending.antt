@@ -6,7 +6,6 @@ use Rattle.signed_views.specs.Given.{handed_to}
 use Rattle.signed_views.specs.Handing.{Pair, CountsStand, EachGrew, RoseAt}
 use Rattle.signed_views.specs.declared.handing.Handed.TheVariants as handed
 use Rattle.transforms.specs.declared.outcome.Report.{Report}
-use Rattle.job_words.specs.declared.fault.WordsFault.TheVariants.{Usage, Memory}
 use Rattle.job_words.specs.declared.job.Job.{Job}
 use Rattle.xmldsig.specs.Outcome.{Answer, IsValid, IsValidOutcome, gives_octets, is_built, is_validation, names_for, run_outcome, views_of, wanted}
 use Rattle.xmldsig.specs.Outcome.{OfReport, OfOctets}

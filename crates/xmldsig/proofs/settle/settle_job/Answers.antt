@@ -21,6 +21,4 @@ pub returns-in-Template : goal.returns-in-Template
 returns-in-Template g c = rw c.in-Template.is c.settle_template.ensures
 
 pub returns-in-SelfTest : goal.returns-in-SelfTest
-returns-in-SelfTest g c =
-    unbuilt_settled g.K.ViewKeeper.pairs g.K.ViewKeeper.faults c.args.job _ c.deliver_refusal-in-SelfTest.result _ _
-    c.deliver_refusal-in-SelfTest.ensures (λ files. rw c.in-SelfTest.is refl) (λ files. rw c.in-SelfTest.is refl)
+returns-in-SelfTest g c = rw c.in-SelfTest.is c.settle_self_test.ensures
