@@ -1,10 +1,8 @@
 -- What the words come to, by their endings.
-use Rattle.std.proofs.Common.{◌≡◌, ◌+◌, ◌-◌, ◌++◌, ◌∙◌, ap, sym, refl, arith, ℕ, true, false, List, [], ◌∷◌, length, take, cond, nat_lt, not, Option, Some, None, is_some, IsTrue, Result, Ok, Err, encode_utf8_all}
+use Rattle.std.proofs.Common.{◌≡◌, ◌+◌, ◌-◌, ◌++◌, ◌∙◌, ap, sym, refl, arith, ℕ, true, List, [], length, take, cond, nat_lt, Option, Some, None, Result, Ok, Err, encode_utf8_all}
 use Rattle.std.specs.Option.{ForSome}
 use Rattle.std.proofs.lemmas.List.{take_all, append-nil}
 use Rattle.sig_base.specs.declared.lists.Views.{Views}
-use Rattle.sig_base.specs.declared.method.CanonMethod.{CanonMethod}
-use Rattle.xmldsig.specs.Form.{form_outcome}
 use Rattle.sig_outside.specs.Told.{Held}
 use Rattle.signed_views.specs.Handing.{CountsStand, Pair, EachGrew, pairs_of}
 use Rattle.signed_views.specs.Given.{handed_to}
@@ -14,15 +12,17 @@ use Rattle.signed_views.specs.declared.handing.Handed.TheVariants as handed
 use Rattle.transforms.specs.declared.outcome.Report.{Report}
 use Rattle.transforms.specs.declared.outcome.Report.TheVariants.{SignatureDiffers, ShortTruncation, Valid, DigestsDiffer}
 use Rattle.job_words.specs.declared.job.Job.{Job}
-use Rattle.job_words.specs.declared.job.Job.TheVariants as job
-use Rattle.xmldsig.specs.Ending.{GrewTowards, everywhere, prefixes}
-use Rattle.xmldsig.specs.Code.Ending.{AsksBy, EndsWords, FolderCounts, KeepersHave, RefusalEnds, ReportEnds, Settled, Settles, SettlesWords, ViewCause}
+use Rattle.xmldsig.specs.Ending.{GrewTowards, everywhere}
+use Rattle.xmldsig.specs.Code.Stops.{Answers, AsksAll, StopCounts}
+use Rattle.xmldsig.specs.Code.Ending.{AsksBy, EndsWords, FolderCounts, KeepersHave, OctetsEnd, RefusalEnds, ReportEnds, Settled, Settles, SettlesWords, ViewCause}
 use Rattle.xmldsig.specs.Outcome.{Answer, gives_octets, is_built, is_validation, names_asked, pairs_by, pairs_for, reported, run_outcome, views_of, written}
 use Rattle.xmldsig.specs.Outcome.{OfReport, OfOctets}
 use Rattle.xmldsig.specs.Outside.{Asking}
 use Rattle.xmldsig.specs.Texts.{report_text}
 use Rattle.xmldsig.specs.declared.ending.Refusal.{Refusal}
 use Rattle.xmldsig.specs.declared.ending.Refusal.TheVariants as refusal
+use Rattle.xmldsig.specs.declared.stop.Stop.{Stop}
+use Rattle.xmldsig.specs.declared.stop.Stop.TheVariants as stop
 use Rattle.xmldsig.specs.declared.ending.Ending.{Ending}
 use Rattle.xmldsig.specs.declared.ending.Ending.TheVariants as ending
 
@@ -246,6 +246,24 @@ written_ok outcome octets e = ap written e
 
 pub written_err : (outcome : Result (List ℕ) Refusal) (cause : Refusal) → outcome ≡ Err cause → written outcome ≡ Err cause
 written_err outcome cause e = ap written e
+
+-- what a command comes to that gives octets
+pub found_settled : {K : Type 0} (pairs : K → Option (List Pair)) (faults : K → ℕ) (named : Job) (held : Option Held)
+    (outcome : Held → Result (List ℕ) Refusal) (found : Result (List ℕ) Stop) (x : Ending) (old new : Asking) (keepers : List K)
+    → gives_octets named ≡ true → is_built named ≡ true → ((files : Held) → run_outcome named files ≡ written (outcome files))
+    → OctetsEnd found x → ForSome held (λ files. Answers found (outcome files))
+    → ForSome held (λ files. AsksAll found (names_asked named files) old.names new.names) → StopCounts found old.faults new.faults
+    → Settled pairs faults (Some named) held x old new keepers keepers
+found_settled pairs faults named held outcome (Ok octets) x old new keepers gives built is ends answers asks counts =
+    rw ends
+    (octets_settled pairs faults named held old new keepers octets gives counts (λ files e. is files ∙ written_ok _ _ (answers files e)) asks)
+found_settled pairs faults named held outcome (Err (stop.Refused cause)) x old new keepers gives built is ends answers asks counts =
+    refusal_settled pairs faults named held x old new keepers cause ends counts
+    (λ files e. is files ∙ written_err _ _ (answers files e)) asks
+found_settled pairs faults named held outcome (Err stop.ReadFault) x old new keepers gives built is ends answers asks counts =
+    rw ends (fault_settled pairs faults named held old new keepers built counts asks)
+found_settled pairs faults named held outcome (Err stop.Memory) x old new keepers gives built is ends answers asks counts =
+    rw ends (memory_settled pairs faults named held old new keepers counts asks)
 
 -- ---- words that name no job, and want of memory for them
 

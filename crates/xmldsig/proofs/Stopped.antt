@@ -25,7 +25,18 @@ use Rattle.core_validate.specs.Answers as answers
 use Rattle.transforms.specs.declared.outcome.Report.{Report}
 use Rattle.transforms.specs.declared.outcome.ValidateRefusal.{ValidateRefusal}
 use Rattle.transforms.specs.declared.outcome.ValidateRefusal.TheVariants as validation
-use Rattle.xmldsig.specs.Stops.{catalog_stop, eval_stop, keys_stop, read_stop, syntax_stop, validate_stop}
+use Rattle.self_test.specs.Outcome as testing
+use Rattle.self_test.specs.declared.refusal.TestRefusal.{TestRefusal}
+use Rattle.self_test.specs.declared.refusal.TestRefusal.TheVariants as test
+use Rattle.signer.specs.Answers as signing
+use Rattle.signer.specs.declared.refusal.SignRefusal.{SignRefusal}
+use Rattle.signer.specs.declared.refusal.SignRefusal.TheVariants as sign
+use Rattle.signer.specs.declared.template.TemplateRefusal.{TemplateRefusal}
+use Rattle.signer.specs.declared.template.TemplateRefusal.TheVariants as template
+use Rattle.xmldsig.specs.Stops.{catalog_stop, eval_stop, keys_stop, read_stop, sign_stop, syntax_stop, template_stop, test_stop, validate_stop}
+use Rattle.xmldsig.specs.SelfTest.{test_cause}
+use Rattle.xmldsig.specs.Sign.{sign_cause}
+use Rattle.xmldsig.specs.Template.{template_cause}
 use Rattle.xmldsig.specs.Code.Form.{Selects}
 use Rattle.xmldsig.specs.Code.Stops.{Answers, AsksAll, StopCounts}
 use Rattle.xmldsig.specs.declared.ending.Refusal.TheVariants as refusal
@@ -175,3 +186,79 @@ validate_counts validation.OctetsTooLong before now e = e
 validate_counts (validation.Reference i target) before now e = e
 validate_counts validation.FetchFailed before now e = e
 validate_counts validation.Memory before now e = e
+
+-- ---- a template that is filled in
+
+pub sign_stopped : (outcome : Result (List ℕ) SignRefusal) (cause : SignRefusal) → signing.Refuses cause outcome
+    → Answers {A = List ℕ} (Err (sign_stop cause)) (with_cause sign_cause outcome)
+sign_stopped outcome (sign.Read why) e = ap (with_cause sign_cause) e
+sign_stopped outcome sign.NoSignature e = ap (with_cause sign_cause) e
+sign_stopped outcome (sign.Fields field) e = ap (with_cause sign_cause) e
+sign_stopped outcome sign.NoKey e = ap (with_cause sign_cause) e
+sign_stopped outcome sign.UnknownKey e = ap (with_cause sign_cause) e
+sign_stopped outcome (sign.ShortTruncation bits) e = ap (with_cause sign_cause) e
+sign_stopped outcome (sign.NotText row) e = ap (with_cause sign_cause) e
+sign_stopped outcome (sign.Reference i target) e = ap (with_cause sign_cause) e
+sign_stopped outcome (sign.Filled why) e = ap (with_cause sign_cause) e
+sign_stopped outcome sign.OctetsTooLong e = ap (with_cause sign_cause) e
+sign_stopped outcome (sign.CoversItself i) e = ap (with_cause sign_cause) e
+sign_stopped outcome sign.FetchFailed e = tt
+sign_stopped outcome sign.Memory e = tt
+
+pub sign_asks : (cause : SignRefusal) (names old new : List (List ℕ)) → signing.AsksAll {A = List ℕ} (Err cause) names old new
+    → AsksAll {A = List ℕ} (Err (sign_stop cause)) names old new
+sign_asks (sign.Read why) names old new e = e
+sign_asks sign.NoSignature names old new e = e
+sign_asks (sign.Fields field) names old new e = e
+sign_asks sign.NoKey names old new e = e
+sign_asks sign.UnknownKey names old new e = e
+sign_asks (sign.ShortTruncation bits) names old new e = e
+sign_asks (sign.NotText row) names old new e = e
+sign_asks (sign.Reference i target) names old new e = e
+sign_asks (sign.Filled why) names old new e = e
+sign_asks sign.OctetsTooLong names old new e = e
+sign_asks (sign.CoversItself i) names old new e = e
+sign_asks sign.FetchFailed names old new e = e
+sign_asks sign.Memory names old new e = e
+
+pub sign_counts : (cause : SignRefusal) (before now : ℕ) → signing.FaultCounts {A = List ℕ} (Err cause) before now
+    → StopCounts {A = List ℕ} (Err (sign_stop cause)) before now
+sign_counts (sign.Read why) before now e = e
+sign_counts sign.NoSignature before now e = e
+sign_counts (sign.Fields field) before now e = e
+sign_counts sign.NoKey before now e = e
+sign_counts sign.UnknownKey before now e = e
+sign_counts (sign.ShortTruncation bits) before now e = e
+sign_counts (sign.NotText row) before now e = e
+sign_counts (sign.Reference i target) before now e = e
+sign_counts (sign.Filled why) before now e = e
+sign_counts sign.OctetsTooLong before now e = e
+sign_counts (sign.CoversItself i) before now e = e
+sign_counts sign.FetchFailed before now e = e
+sign_counts sign.Memory before now e = e
+
+-- ---- a template
+
+pub template_stopped : (outcome : Result (List ℕ) TemplateRefusal) (cause : TemplateRefusal) → signing.TemplateRefuses cause outcome
+    → Answers {A = List ℕ} (Err (template_stop cause)) (with_cause template_cause outcome)
+template_stopped outcome (template.Read cause) e = ap (with_cause template_cause) e
+template_stopped outcome template.Memory e = tt
+
+pub template_calm : (A : Type 0) (cause : TemplateRefusal) → let r : Result A Stop = Err (template_stop cause) in r ≢ Err stop.ReadFault
+template_calm A (template.Read cause) = λ e. cc
+template_calm A template.Memory = λ e. cc
+
+-- ---- a self-test
+
+pub test_stopped : (outcome : Result (List ℕ) TestRefusal) (cause : TestRefusal) → testing.Refuses cause outcome
+    → Answers {A = List ℕ} (Err (test_stop cause)) (with_cause test_cause outcome)
+test_stopped outcome (test.Sign why) e = ap (with_cause test_cause) e
+test_stopped outcome (test.Read why) e = ap (with_cause test_cause) e
+test_stopped outcome (test.Validate why) e = ap (with_cause test_cause) e
+test_stopped outcome test.Memory e = tt
+
+pub test_calm : (A : Type 0) (cause : TestRefusal) → let r : Result A Stop = Err (test_stop cause) in r ≢ Err stop.ReadFault
+test_calm A (test.Sign why) = λ e. cc
+test_calm A (test.Read why) = λ e. cc
+test_calm A (test.Validate why) = λ e. cc
+test_calm A test.Memory = λ e. cc

@@ -1,9 +1,11 @@
 -- The definitions of a run at examples.
-use Rattle.std.proofs.Common.{◌≡◌, refl, [], ◌∷◌, Some, None, Err}
-use Rattle.std.specs.Prelude.{codes, bytes_eq, if◌then◌else◌}
+use Rattle.std.proofs.Common.{◌≡◌, refl, [], ◌∷◌, None, Err}
+use Rattle.std.specs.Prelude.{codes}
 use Rattle.std.specs.Char.{encode_utf8}
 use Rattle.std.specs.Fmt.{digits}
 use Rattle.sig_base.specs.declared.method.CanonMethod.TheVariants.{C10}
+use Rattle.sig_base.specs.declared.method.DigestMethod.TheVariants.{Sha256}
+use Rattle.sig_base.specs.declared.method.MacMethod.TheVariants.{HmacSha256}
 use Rattle.sig_outside.specs.Told.{Held}
 use Rattle.digests_hmac.specs.declared.key_table.KeyFault.TheVariants as key
 use Rattle.dsig_fields.specs.declared.names.ElementName.TheVariants as element
@@ -12,15 +14,14 @@ use Rattle.transforms.specs.declared.outcome.Report.TheVariants.{ShortTruncation
 use Rattle.transforms.specs.declared.outcome.ValidateRefusal.TheVariants as validation
 use Rattle.transforms.specs.declared.refusal.RefRefusal.TheVariants as target
 use Rattle.job_words.specs.declared.job.Job.TheVariants as job
+use Rattle.signer.specs.declared.refusal.SignRefusal.TheVariants as signing
+use Rattle.xml_read.specs.declared.read.ReadRefusal.TheVariants as read
 use Rattle.xmldsig.specs.Outcome.{names_asked, run_outcome}
 use Rattle.xmldsig.specs.Texts.{refusal_line, report_text, view_fault_line}
 use Rattle.xmldsig.specs.declared.ending.Refusal.TheVariants as refusal
 
 abbrev holds_nothing : Held
 holds_nothing name = None
-
-abbrev holds_the_document_alone : Held
-holds_the_document_alone name = if bytes_eq name (codes "d.xml") then Some (codes "<a/>") else None
 
 -- without the document nothing more is asked for
 worked_no_document : run_outcome (job.Canon (codes "d.xml") C10 None None []) holds_nothing ≡ Err refusal.NoDocument
@@ -31,11 +32,13 @@ worked_names : names_asked (job.Canon (codes "d.xml") C10 None None []) holds_no
 unfolding encode_utf8
 worked_names = refl
 
--- what isn't built asks for nothing
-worked_self_test : run_outcome (job.SelfTest 1) holds_the_document_alone ≡ Err refusal.NotBuilt
-worked_self_test = refl
+-- neither a template nor a signature is had without the document
+worked_no_template : run_outcome (job.Template (codes "d.xml") HmacSha256 Sha256 None) holds_nothing ≡ Err refusal.NoDocument
+unfolding encode_utf8
+worked_no_template = refl
 
-worked_self_test_names : names_asked (job.SelfTest 1) holds_the_document_alone ≡ []
+-- a self-test asks for nothing
+worked_self_test_names : names_asked (job.SelfTest 1) holds_nothing ≡ []
 worked_self_test_names = refl
 
 worked_valid : report_text
@@ -66,6 +69,13 @@ worked_absent = refl
 worked_keys : refusal_line (refusal.Keys (key.Repeated 2 1)) ≡ codes "refused KeyRepeated 2 1\n"
 unfolding digits
 worked_keys = refl
+
+worked_filled : refusal_line (refusal.Sign (signing.Filled read.TooLarge)) ≡ codes "refused filled TooLarge\n"
+worked_filled = refl
+
+worked_covers : refusal_line (refusal.Sign (signing.CoversItself 2)) ≡ codes "refused CoversItself 2\n"
+unfolding digits
+worked_covers = refl
 
 worked_fault : view_fault_line 2 2 ≡ codes "fault view 2 2\n"
 unfolding digits

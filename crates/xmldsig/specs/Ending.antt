@@ -1,5 +1,5 @@
 -- What a run has done by its ending, before anything is printed.
-use Rattle.std.specs.Prelude.{◌-◌, ℕ, List, take, Option}
+use Rattle.std.specs.Prelude.{ℕ, List, take, Option}
 use Rattle.signed_views.specs.Handing.{Pair, EachGrew}
 use Rattle.job_words.specs.declared.fault.WordsFault.{WordsFault}
 use Rattle.job_words.specs.declared.fault.WordsFault.TheVariants.{Usage, Memory}

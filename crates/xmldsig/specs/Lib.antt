@@ -5,8 +5,11 @@ pub mod Headline
 pub mod Outcome
 pub mod Outside
 pub mod Printed
+pub mod SelfTest
+pub mod Sign
 pub mod Status
 pub mod Stops
+pub mod Template
 pub mod Texts
 pub mod Validation
 pub mod Code

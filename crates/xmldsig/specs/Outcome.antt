@@ -1,5 +1,5 @@
 -- What a job comes to over the files that a folder holds, and the names that it asks for.
-use Rattle.std.specs.Prelude.{◌&&◌, ◌||◌, ℕ, Bool, true, false, not, List, [], ◌∷◌, length, is_some, if◌then◌else◌, encode_utf8_all, Option, Some, None, Result, Ok, Err}
+use Rattle.std.specs.Prelude.{◌||◌, ℕ, Bool, true, false, not, List, [], ◌∷◌, length, is_some, if◌then◌else◌, encode_utf8_all, Option, Some, None, Result, Ok, Err}
 use Rattle.sig_base.specs.Outcomes.{and_then}
 use Rattle.sig_outside.specs.Told.{Held}
 use Rattle.signed_views.specs.Handing.{Pair, pairs_of}
@@ -9,6 +9,9 @@ use Rattle.transforms.specs.declared.outcome.Report.TheVariants as verdict
 use Rattle.job_words.specs.declared.job.Job.{Job}
 use Rattle.job_words.specs.declared.job.Job.TheVariants as job
 use Rattle.xmldsig.specs.Form.{form_outcome}
+use Rattle.xmldsig.specs.SelfTest.{line_outcome}
+use Rattle.xmldsig.specs.Sign.{signing_names, signing_outcome}
+use Rattle.xmldsig.specs.Template.{options_for, template_outcome}
 use Rattle.xmldsig.specs.Validation.{validation_names, validation_outcome}
 use Rattle.xmldsig.specs.declared.ending.Refusal.{Refusal}
 use Rattle.xmldsig.specs.declared.ending.Refusal.TheVariants as refusal
@@ -18,15 +21,15 @@ pub data Answer : Type 0 where
   OfReport : Report → Answer
   OfOctets : List ℕ → Answer
 
--- ---- what is built today: a validation without manifests, and canonical forms
+-- ---- what is built: all but a validation of manifests
 
 abbrev pub is_validation : Job → Bool
 is_validation (job.Validate asked views manifests) = not manifests
 is_validation other = false
 
 abbrev pub gives_octets : Job → Bool
-gives_octets (job.Canon doc method id xpath prefixes) = true
-gives_octets other = false
+gives_octets (job.Validate asked views manifests) = false
+gives_octets other = true
 
 abbrev pub is_built : Job → Bool
 is_built named = is_validation named || gives_octets named
@@ -44,13 +47,17 @@ abbrev pub run_outcome : Job → Held → Result Answer Refusal
 run_outcome (job.Validate asked views manifests) files =
     if manifests then Err refusal.NotBuilt else reported (validation_outcome asked (is_some views) files)
 run_outcome (job.Canon doc method id xpath prefixes) files = written (form_outcome doc method id xpath prefixes files)
-run_outcome other files = Err refusal.NotBuilt
+run_outcome (job.Sign asked) files = written (signing_outcome asked files)
+run_outcome (job.Template doc mac digest key) files = written (template_outcome doc (options_for mac digest key) files)
+run_outcome (job.SelfTest paragraphs) files = written (line_outcome paragraphs)
 
 -- the names that a job asks for, up to its first refusal
 abbrev pub names_asked : Job → Held → List (List ℕ)
 names_asked (job.Validate asked views manifests) files = if manifests then [] else validation_names asked (is_some views) files
 names_asked (job.Canon doc method id xpath prefixes) files = encode_utf8_all doc ∷ []
-names_asked other files = []
+names_asked (job.Sign asked) files = signing_names asked files
+names_asked (job.Template doc mac digest key) files = encode_utf8_all doc ∷ []
+names_asked (job.SelfTest paragraphs) files = []
 
 -- ---- the views
 

@@ -11,6 +11,14 @@ use Rattle.xpath_eval.specs.declared.refusal.EvalRefusal.{EvalRefusal}
 use Rattle.xpath_eval.specs.declared.refusal.EvalRefusal.TheVariants as eval
 use Rattle.transforms.specs.declared.outcome.ValidateRefusal.{ValidateRefusal}
 use Rattle.transforms.specs.declared.outcome.ValidateRefusal.TheVariants as validation
+use Rattle.self_test.specs.declared.refusal.TestRefusal.{TestRefusal}
+use Rattle.self_test.specs.declared.refusal.TestRefusal.TheVariants as test
+use Rattle.signer.specs.declared.refusal.SignRefusal.{SignRefusal}
+use Rattle.signer.specs.declared.refusal.SignRefusal.TheVariants as signing
+use Rattle.signer.specs.declared.template.TemplateRefusal.{TemplateRefusal}
+use Rattle.signer.specs.declared.template.TemplateRefusal.TheVariants as template
+use Rattle.xmldsig.specs.SelfTest.{test_cause}
+use Rattle.xmldsig.specs.Sign.{sign_cause}
 use Rattle.xmldsig.specs.declared.ending.Refusal.TheVariants as refusal
 use Rattle.xmldsig.specs.declared.stop.Stop.{Stop}
 use Rattle.xmldsig.specs.declared.stop.Stop.TheVariants as stop
@@ -40,3 +48,16 @@ abbrev pub validate_stop : ValidateRefusal → Stop
 validate_stop validation.FetchFailed = stop.ReadFault
 validate_stop validation.Memory = stop.Memory
 validate_stop cause = stop.Refused (refusal.Validate cause)
+
+abbrev pub sign_stop : SignRefusal → Stop
+sign_stop signing.FetchFailed = stop.ReadFault
+sign_stop signing.Memory = stop.Memory
+sign_stop cause = stop.Refused (sign_cause cause)
+
+abbrev pub template_stop : TemplateRefusal → Stop
+template_stop template.Memory = stop.Memory
+template_stop (template.Read cause) = stop.Refused (refusal.Read cause)
+
+abbrev pub test_stop : TestRefusal → Stop
+test_stop test.Memory = stop.Memory
+test_stop cause = stop.Refused (test_cause cause)

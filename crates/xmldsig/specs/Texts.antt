@@ -12,6 +12,8 @@ use Rattle.transforms.specs.declared.refusal.RefRefusal.{RefRefusal}
 use Rattle.transforms.specs.declared.refusal.RefRefusal.TheVariants as target
 use Rattle.transforms.specs.declared.outcome.ValidateRefusal.{ValidateRefusal}
 use Rattle.transforms.specs.declared.outcome.ValidateRefusal.TheVariants as validation
+use Rattle.signer.specs.declared.refusal.SignRefusal.{SignRefusal}
+use Rattle.signer.specs.declared.refusal.SignRefusal.TheVariants as signing
 use Rattle.uri_refs.specs.declared.catalog.CatalogFault.{CatalogFault}
 use Rattle.uri_refs.specs.declared.catalog.CatalogFault.TheVariants as catalog
 use Rattle.uri_refs.specs.declared.refusal.UriRefusal.{UriRefusal}
@@ -157,6 +159,22 @@ validate_words (validation.Reference i cause) = one_numbered (codes " reference"
 validate_words validation.FetchFailed = codes " FetchFailed"
 validate_words validation.Memory = codes " Memory"
 
+-- before why the filled template can't be read stands a word
+abbrev pub sign_words : SignRefusal → List ℕ
+sign_words (signing.Read cause) = read_words cause
+sign_words signing.NoSignature = codes " NoSignature"
+sign_words (signing.Fields cause) = field_words cause
+sign_words signing.NoKey = codes " NoKey"
+sign_words signing.UnknownKey = codes " UnknownKey"
+sign_words (signing.ShortTruncation bits) = one_numbered (codes " ShortTruncation") bits
+sign_words (signing.NotText row) = one_numbered (codes " NotText") row
+sign_words (signing.Reference i cause) = one_numbered (codes " reference") i ++ reference_words cause
+sign_words (signing.Filled cause) = codes " filled" ++ read_words cause
+sign_words signing.OctetsTooLong = codes " OctetsTooLong"
+sign_words (signing.CoversItself i) = one_numbered (codes " CoversItself") i
+sign_words signing.FetchFailed = codes " FetchFailed"
+sign_words signing.Memory = codes " Memory"
+
 abbrev pub refusal_words : Refusal → List ℕ
 refusal_words refusal.NotBuilt = codes " NotBuilt"
 refusal_words refusal.NoDocument = codes " NoDocument"
@@ -168,6 +186,7 @@ refusal_words refusal.CatalogTooLarge = codes " CatalogTooLarge"
 refusal_words (refusal.Catalog fault) = catalog_words fault
 refusal_words (refusal.Read cause) = read_words cause
 refusal_words (refusal.Validate cause) = validate_words cause
+refusal_words (refusal.Sign cause) = sign_words cause
 refusal_words (refusal.Syntax cause) = syntax_words cause
 refusal_words (refusal.Eval cause) = eval_words cause
 refusal_words refusal.NoSuchId = codes " NoSuchId"

@@ -5,6 +5,7 @@ ghost use Rattle.xmldsig.specs.Status.{exit_code};
 use core_validate::{Report, ValidateRefusal};
 use digests_hmac::KeyFault;
 use sig_base::Octets;
+use signer::SignRefusal;
 use uri_refs::CatalogFault;
 use xml_read::ReadRefusal;
 use xpath_eval::EvalRefusal;
@@ -74,6 +75,8 @@ pub enum Refusal {
     Read(ReadRefusal),
     /// The signature is refused.
     Validate(ValidateRefusal),
+    /// The template is not signed.
+    Sign(SignRefusal),
     /// The expression can't be read.
     Syntax(SyntaxRefusal),
     /// The expression can't be evaluated.

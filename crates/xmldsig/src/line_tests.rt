@@ -104,7 +104,18 @@ fn lines(rt: HostRuntime) -> Result<(), Fail> {
         ("", "canon d.xml --method c14n10 --prefixes a", usage),
         ("", "selftest 0", usage),
         ("", "validate d.xml --keys k.txt", unheard),
-        ("", "template d.xml", refused("refused NotBuilt\n", 0)),
+        ("", "template d.xml", refused("refused NotWellFormed\n", 1)),
+        ("", "template n.xml", refused("refused NoDocument\n", 1)),
+        (
+            "",
+            "sign d.xml --keys k.txt",
+            refused("refused NotWellFormed\n", 2),
+        ),
+        (
+            "",
+            "sign d.xml --keys n.txt",
+            refused("refused NoKeys\n", 2),
+        ),
         (
             "",
             "validate d.xml --keys k.txt --manifests",
@@ -433,5 +444,154 @@ fn views(rt: HostRuntime) -> Result<(), Fail> {
         let only: &[&str] = &[view];
         expect_each(&rt, keepers.as_slice(), &[only]);
     }
+    Ok(())
+}
+
+const TEMPLATE: &str =
+    "<ds:Signature xmlns:ds=\"http://www.w3.org/2000/09/xmldsig#\"><ds:SignedInfo><ds:CanonicalizationMethod Algorithm=\"http://www.w3.org/2001/10/xml-exc-c14n#\"/><ds:SignatureMethod Algorithm=\"http://www.w3.org/2001/04/xmldsig-more#hmac-sha256\"/><ds:Reference URI=\"\"><ds:Transforms><ds:Transform Algorithm=\"http://www.w3.org/2000/09/xmldsig#enveloped-signature\"/><ds:Transform Algorithm=\"http://www.w3.org/2001/10/xml-exc-c14n#\"/></ds:Transforms><ds:DigestMethod Algorithm=\"http://www.w3.org/2001/04/xmlenc#sha256\"/><ds:DigestValue/></ds:Reference></ds:SignedInfo><ds:SignatureValue/></ds:Signature>";
+
+#[test]
+fn templates(rt: HostRuntime) -> Result<(), Fail> {
+    let alloc = rt.alloc();
+    let named =
+        "<ds:Signature xmlns:ds=\"http://www.w3.org/2000/09/xmldsig#\"><ds:SignedInfo><ds:CanonicalizationMethod Algorithm=\"http://www.w3.org/2001/10/xml-exc-c14n#\"/><ds:SignatureMethod Algorithm=\"http://www.w3.org/2000/09/xmldsig#hmac-sha1\"/><ds:Reference URI=\"\"><ds:Transforms><ds:Transform Algorithm=\"http://www.w3.org/2000/09/xmldsig#enveloped-signature\"/><ds:Transform Algorithm=\"http://www.w3.org/2001/10/xml-exc-c14n#\"/></ds:Transforms><ds:DigestMethod Algorithm=\"http://www.w3.org/2000/09/xmldsig#sha1\"/><ds:DigestValue/></ds:Reference></ds:SignedInfo><ds:SignatureValue/><ds:KeyInfo><ds:KeyName>a&amp;b</ds:KeyName></ds:KeyInfo></ds:Signature>";
+    for (document, line, start, template, end) in [
+        (
+            "<doc>hi</doc>",
+            "template d.xml",
+            "<doc>hi",
+            TEMPLATE,
+            "</doc>",
+        ),
+        ("<a/>\n", "template d.xml", "<a>", TEMPLATE, "</a>\n"),
+        (
+            "<a b='c' >t</a >",
+            "template d.xml --method hmac-sha1 --digest sha1 --key a&b",
+            "<a b='c' >t",
+            named,
+            "</a >",
+        ),
+    ] {
+        let out = joined(alloc, &[start, template, end])?;
+        let end = printed(Status::Done, &out);
+        expect(&rt, alloc, document, line, &mut Vec::new(alloc), end)?;
+    }
+    Ok(())
+}
+
+/// A Reference without a digest.
+fn template_reference(alloc: Global, uri: &str) -> Result<String, NoMemory> {
+    reference(alloc, uri, DIGEST, "")
+}
+
+#[test]
+fn signing(rt: HostRuntime) -> Result<(), Fail> {
+    let alloc = rt.alloc();
+    let line = "sign d.xml --keys k.txt";
+    let empty = template_reference(alloc, "#obj")?;
+    let template = signature(alloc, C10, SHA256, "", &empty, "", OBJECT)?;
+    let commented = reference(alloc, "#obj", DIGEST, "<!--c-->")?;
+    let commented = signature(alloc, C10, SHA256, "", &commented, "", OBJECT)?;
+    let absent = template_reference(alloc, "n.bin")?;
+    let absent = signature(alloc, C10, SHA256, "", &absent, "", OBJECT)?;
+    let whole = template_reference(alloc, "")?;
+    let whole = signature(alloc, C10, SHA256, "", &whole, "", "")?;
+    let short = signature(
+        alloc,
+        C10,
+        SHA256,
+        "<HMACOutputLength>64</HMACOutputLength>",
+        &empty,
+        "",
+        OBJECT,
+    )?;
+    let done = End {
+        asked: 2,
+        ..printed(Status::Done, DOCUMENT)
+    };
+    for (document, line, end) in [
+        (template.as_str(), line, done),
+        (DOCUMENT, line, done),
+        (
+            template.as_str(),
+            "sign d.xml --keys k.txt --key k2",
+            refused("refused UnknownKey\n", 2),
+        ),
+        (
+            template.as_str(),
+            "sign d.xml --keys k.txt --index 2",
+            refused("refused NoSignature\n", 2),
+        ),
+        (
+            template.as_str(),
+            "sign d.xml --keys k.txt --catalog c.txt",
+            refused("refused CatalogBadLine 1\n", 3),
+        ),
+        (commented.as_str(), line, refused("refused NotText 23\n", 2)),
+        (
+            absent.as_str(),
+            line,
+            refused("refused reference 1 Absent\n", 3),
+        ),
+        (whole.as_str(), line, refused("refused CoversItself 1\n", 2)),
+        (
+            short.as_str(),
+            line,
+            refused("refused ShortTruncation 64\n", 2),
+        ),
+    ] {
+        expect(&rt, alloc, document, line, &mut Vec::new(alloc), end)?;
+    }
+    Ok(())
+}
+
+/// Runs a line over a document, and answers what stands on out.
+fn made(rt: &impl Abort, alloc: Global, document: &str, line: &str) -> Result<String, NoMemory> {
+    let mut folder = folder_of(alloc, document)?;
+    let words = words_of(alloc, line)?;
+    let mut keepers: Vec<Box<dyn ViewKeeper>> = Vec::new(alloc);
+    let mut out = MemSink::with_room(alloc, 1000)?;
+    let mut err = MemSink::with_room(alloc, 100)?;
+    let status = run(alloc, &words, &mut folder, &mut keepers, &mut out, &mut err);
+    assert_eq!(rt; status, Status::Done, "{}", line);
+    let Ok(text) = str::from_utf8(out.bytes()) else {
+        panic!(rt);
+    };
+    Ok(String::from_str(alloc, text)?)
+}
+
+#[test]
+fn what_is_signed_is_valid(rt: HostRuntime) -> Result<(), Fail> {
+    let alloc = rt.alloc();
+    for (document, line) in [
+        ("<doc>hi</doc>", "valid\nreference 1 octets 13\n"),
+        (
+            "<?xml version=\"1.0\"?>\n<a b='cd'/>\n",
+            "valid\nreference 1 octets 14\n",
+        ),
+    ] {
+        let template = made(&rt, alloc, document, "template d.xml --key k1")?;
+        let signed = made(&rt, alloc, &template, "sign d.xml --keys k.txt")?;
+        let again = made(&rt, alloc, &signed, "sign d.xml --keys k.txt")?;
+        assert!(rt; again.as_str() == signed.as_str());
+        let end = End {
+            asked: 2,
+            ..printed(Status::Valid, line)
+        };
+        let validate = "validate d.xml --keys k.txt";
+        expect(&rt, alloc, &signed, validate, &mut Vec::new(alloc), end)?;
+    }
+    Ok(())
+}
+
+#[test]
+fn self_tests(rt: HostRuntime) -> Result<(), Fail> {
+    let alloc = rt.alloc();
+    let out = "selftest 1 references 1 octets 27 bytes 535 valid\n";
+    let end = End {
+        asked: 0,
+        ..printed(Status::Done, out)
+    };
+    expect(&rt, alloc, "", "selftest 1", &mut Vec::new(alloc), end)?;
     Ok(())
 }

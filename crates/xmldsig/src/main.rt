@@ -13,9 +13,12 @@ mod print;
 mod refusals;
 mod report;
 mod settle;
+mod sign;
 #[cfg(test)]
 mod signed_tests;
 mod stop;
+mod template;
+mod testing;
 #[cfg(test)]
 mod tests;
 mod top;

@@ -1,12 +1,13 @@
 //! The line of a refusal.
 ghost use Rattle.std.specs.Prelude.{◌≡◌, ◌++◌, IfOk, codes, string_bytes};
-ghost use Rattle.xmldsig.specs.Texts.{catalog_words, eval_words, field_words, key_words, one_numbered, part_words, read_words, reference_words, refusal_line, refusal_words, step_words, syntax_words, two_numbered, uri_words, validate_words};
+ghost use Rattle.xmldsig.specs.Texts.{catalog_words, eval_words, field_words, key_words, one_numbered, part_words, read_words, reference_words, refusal_line, refusal_words, sign_words, step_words, syntax_words, two_numbered, uri_words, validate_words};
 
 use crate::ending::Refusal;
 use core_validate::{RefRefusal, ValidateRefusal};
 use digests_hmac::KeyFault;
 use dsig_fields::FieldRefusal;
 use sig_base::{NoMemory, Octets};
+use signer::SignRefusal;
 use std::alloc::Global;
 use uri_refs::{CatalogFault, UriRefusal};
 use xml_read::ReadRefusal;
@@ -227,6 +228,34 @@ fn validate_words(alloc: Global, cause: ValidateRefusal) -> Result<String, NoMem
     }
 }
 
+/// Why a template that is filled in can't be read.
+fn filled_words(alloc: Global, cause: ReadRefusal) -> Result<String, NoMemory>
+    ensures { IfOk result (λ words. string_bytes words ≡ codes " filled" ++ read_words cause) }
+{
+    Ok(format!(in alloc; " filled{}", read_word(cause))?)
+}
+
+/// The words of a refusal of a template.
+fn sign_words(alloc: Global, cause: SignRefusal) -> Result<String, NoMemory>
+    ensures { IfOk result (λ words. string_bytes words ≡ sign_words cause) }
+{
+    match cause {
+        SignRefusal::Read(cause) => bare(alloc, read_word(cause)),
+        SignRefusal::NoSignature => bare(alloc, " NoSignature"),
+        SignRefusal::Fields(cause) => field_words(alloc, cause),
+        SignRefusal::NoKey => bare(alloc, " NoKey"),
+        SignRefusal::UnknownKey => bare(alloc, " UnknownKey"),
+        SignRefusal::ShortTruncation(bits) => one_numbered(alloc, " ShortTruncation", bits as u64),
+        SignRefusal::NotText(row) => one_numbered(alloc, " NotText", row as u64),
+        SignRefusal::Reference(i, cause) => numbered_words(alloc, i, cause),
+        SignRefusal::Filled(cause) => filled_words(alloc, cause),
+        SignRefusal::OctetsTooLong => bare(alloc, " OctetsTooLong"),
+        SignRefusal::CoversItself(i) => one_numbered(alloc, " CoversItself", i as u64),
+        SignRefusal::FetchFailed => bare(alloc, " FetchFailed"),
+        SignRefusal::Memory => bare(alloc, " Memory"),
+    }
+}
+
 /// The words of a refusal.
 fn refusal_words(alloc: Global, refusal: Refusal) -> Result<String, NoMemory>
     ensures { IfOk result (λ words. string_bytes words ≡ refusal_words refusal) }
@@ -242,6 +271,7 @@ fn refusal_words(alloc: Global, refusal: Refusal) -> Result<String, NoMemory>
         Refusal::Catalog(fault) => catalog_words(alloc, fault),
         Refusal::Read(cause) => bare(alloc, read_word(cause)),
         Refusal::Validate(cause) => validate_words(alloc, cause),
+        Refusal::Sign(cause) => sign_words(alloc, cause),
         Refusal::Syntax(cause) => bare(alloc, syntax_word(cause)),
         Refusal::Eval(cause) => eval_words(alloc, cause),
         Refusal::NoSuchId => bare(alloc, " NoSuchId"),

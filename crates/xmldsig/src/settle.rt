@@ -4,7 +4,7 @@ ghost use Rattle.core_validate.specs.Answers.{HasFewViews};
 ghost use Rattle.job_words.specs.Job.{job_of};
 ghost use Rattle.job_words.specs.declared.job.Job.TheVariants as named;
 ghost use Rattle.signed_views.specs.Handing.{CountsStand};
-ghost use Rattle.xmldsig.specs.Code.Ending.{KeepersHave, RefusalEnds, ReportEnds, Settled, ViewCause};
+ghost use Rattle.xmldsig.specs.Code.Ending.{KeepersHave, OctetsEnd, RefusalEnds, ReportEnds, Settled, ViewCause};
 ghost use Rattle.xmldsig.specs.Outcome as spec;
 ghost use Rattle.xmldsig.specs.Outside.{asking};
 
@@ -12,13 +12,17 @@ use crate::ending::{Ending, Refusal};
 use crate::form::{Form, find_form};
 use crate::refusals::line_of;
 use crate::report::text_of;
+use crate::sign::make_signed;
 use crate::stop::Stop;
+use crate::template::make_template;
+use crate::testing::make_line;
 use crate::validation::find_report;
 use core_validate::Report;
 use job_words::{Asked, Job, WordsFault, job_of};
-use sig_base::Text;
+use sig_base::{Octets, Text};
 use sig_outside::{Folder, ViewKeeper};
 use signed_views::{Handed, hand_on, view_names};
+use signer::TemplateOptions;
 use std::alloc::Global;
 
 /// Makes the text of a report and the names of its views, and then hands the views on. The text and the names are the last
@@ -65,6 +69,18 @@ fn deliver_refusal(alloc: Global, refusal: Refusal) -> Ending
     }
 }
 
+/// Hands on octets, or says why there are none.
+fn deliver_octets(alloc: Global, found: Result<Octets, Stop>) -> Ending
+    ensures { OctetsEnd found result }
+{
+    match found {
+        Ok(octets) => Ending::Written { octets },
+        Err(Stop::Refused(refusal)) => deliver_refusal(alloc, refusal),
+        Err(Stop::ReadFault) => Ending::ReadFault,
+        Err(Stop::Memory) => Ending::Memory,
+    }
+}
+
 /// What a validation comes to.
 fn settle_validation<F: Folder, K: ViewKeeper>(
     alloc: Global,
@@ -96,12 +112,51 @@ fn settle_form<F: Folder, K: ViewKeeper>(
         (asking F.asked F.faults folder.old) (asking F.asked F.faults folder.new) keepers.old.items keepers.new.items }
 {
     let _ = keepers;
-    match find_form(alloc, &doc, &form, folder) {
-        Ok(octets) => Ending::Written { octets },
-        Err(Stop::Refused(refusal)) => deliver_refusal(alloc, refusal),
-        Err(Stop::ReadFault) => Ending::ReadFault,
-        Err(Stop::Memory) => Ending::Memory,
-    }
+    deliver_octets(alloc, find_form(alloc, &doc, &form, folder))
+}
+
+/// What a template that is filled in comes to.
+fn settle_signing<F: Folder, K: ViewKeeper>(
+    alloc: Global,
+    asked: Asked,
+    folder: &mut F,
+    keepers: &mut Vec<K>,
+) -> Ending
+    ensures { Settled K.pairs K.faults (Some (named.Sign asked)) (F.held folder.old) result
+        (asking F.asked F.faults folder.old) (asking F.asked F.faults folder.new) keepers.old.items keepers.new.items }
+{
+    let _ = keepers;
+    deliver_octets(alloc, make_signed(alloc, asked, folder))
+}
+
+/// What a template in a document comes to.
+fn settle_template<F: Folder, K: ViewKeeper>(
+    alloc: Global,
+    doc: Text,
+    options: TemplateOptions,
+    folder: &mut F,
+    keepers: &mut Vec<K>,
+) -> Ending
+    ensures { Settled K.pairs K.faults (Some (named.Template doc options.mac options.digest options.key_name)) (F.held folder.old) result
+        (asking F.asked F.faults folder.old) (asking F.asked F.faults folder.new) keepers.old.items keepers.new.items }
+{
+    let _ = keepers;
+    deliver_octets(alloc, make_template(alloc, &doc, &options, folder))
+}
+
+/// What a self-test comes to. It asks the folder for nothing.
+fn settle_self_test<F: Folder, K: ViewKeeper>(
+    alloc: Global,
+    paragraphs: u32,
+    folder: &mut F,
+    keepers: &mut Vec<K>,
+) -> Ending
+    ensures { Settled K.pairs K.faults (Some (named.SelfTest paragraphs)) (F.held folder.old) result
+        (asking F.asked F.faults folder.old) (asking F.asked F.faults folder.new) keepers.old.items keepers.new.items }
+{
+    let _ = folder;
+    let _ = keepers;
+    deliver_octets(alloc, make_line(alloc, paragraphs))
 }
 
 /// What a job comes to.
@@ -141,13 +196,21 @@ fn settle_job<F: Folder, K: ViewKeeper>(
             };
             settle_form(alloc, doc, form, folder, keepers)
         }
-        Job::Sign { asked: _asked } => deliver_refusal(alloc, Refusal::NotBuilt),
+        Job::Sign { asked } => settle_signing(alloc, asked, folder, keepers),
         Job::Template {
-            doc: _doc,
-            key: _key,
-            ..
-        } => deliver_refusal(alloc, Refusal::NotBuilt),
-        Job::SelfTest { .. } => deliver_refusal(alloc, Refusal::NotBuilt),
+            doc,
+            mac,
+            digest,
+            key,
+        } => {
+            let options = TemplateOptions {
+                mac,
+                digest,
+                key_name: key,
+            };
+            settle_template(alloc, doc, options, folder, keepers)
+        }
+        Job::SelfTest { paragraphs } => settle_self_test(alloc, paragraphs, folder, keepers),
     }
 }
 

@@ -1,15 +1,28 @@
 //! Why a job stops before it has an answer.
 ghost use Rattle.std.specs.Prelude.{◌≡◌};
+ghost use Rattle.xmldsig.specs.Sign.{sign_cause};
 ghost use Rattle.xmldsig.specs.Stops as spec;
 
 use crate::ending::Refusal;
 use core_validate::ValidateRefusal;
 use digests_hmac::KeyFault;
+use self_test::TestRefusal;
 use sig_base::NoMemory;
+use signer::{SignRefusal, TemplateRefusal};
 use uri_refs::CatalogFault;
 use xml_read::ReadRefusal;
 use xpath_eval::EvalRefusal;
 use xpath_syntax::SyntaxRefusal;
+
+/// Why a template isn't signed: one that can't be read is a document that can't be read.
+fn signing_refusal(cause: SignRefusal) -> Refusal
+    ensures { result ≡ sign_cause cause }
+{
+    match cause {
+        SignRefusal::Read(cause) => Refusal::Read(cause),
+        _ => Refusal::Sign(cause),
+    }
+}
 
 /// Why there is no answer.
 #[derive(Clone, Copy, Debug, PartialEq, Eq)]
@@ -92,6 +105,37 @@ impl Stop {
             ValidateRefusal::FetchFailed => Stop::ReadFault,
             ValidateRefusal::Memory => Stop::Memory,
             _ => Stop::Refused(Refusal::Validate(cause)),
+        }
+    }
+    /// Why a template that isn't signed stops a job.
+    pub(crate) fn by_signing(cause: SignRefusal) -> Stop
+        ensures { result ≡ spec.sign_stop cause }
+    {
+        match cause {
+            SignRefusal::FetchFailed => Stop::ReadFault,
+            SignRefusal::Memory => Stop::Memory,
+            _ => Stop::Refused(signing_refusal(cause)),
+        }
+    }
+
+    /// Why a document that gets no template stops a job.
+    pub(crate) fn by_template(cause: TemplateRefusal) -> Stop
+        ensures { result ≡ spec.template_stop cause }
+    {
+        match cause {
+            TemplateRefusal::Memory => Stop::Memory,
+            TemplateRefusal::Read(cause) => Stop::Refused(Refusal::Read(cause)),
+        }
+    }
+    /// Why a self-test that has no line stops a job.
+    pub(crate) fn by_self_test(cause: TestRefusal) -> Stop
+        ensures { result ≡ spec.test_stop cause }
+    {
+        match cause {
+            TestRefusal::Sign(cause) => Stop::Refused(signing_refusal(cause)),
+            TestRefusal::Read(cause) => Stop::Refused(Refusal::Read(cause)),
+            TestRefusal::Validate(cause) => Stop::Refused(Refusal::Validate(cause)),
+            TestRefusal::Memory => Stop::Memory,
         }
     }
 }

@@ -62,7 +62,7 @@ fn validate_document<F: Folder>(
 }
 
 /// The octets of the name of a key, where one is given.
-fn lend(name: &Option<Text>) -> Option<&str>
+pub(crate) fn lend(name: &Option<Text>) -> Option<&str>
     ensures { option_map (λ octets. octets.now) result ≡ option_map encode_utf8_all name.now }
 {
     match name {

@@ -6,7 +6,6 @@ use Rattle.signed_views.specs.Given.{handed_to}
 use Rattle.signed_views.specs.Handing.{Pair, CountsStand, EachGrew, RoseAt}
 use Rattle.signed_views.specs.declared.handing.Handed.TheVariants as handed
 use Rattle.transforms.specs.declared.outcome.Report.{Report}
-use Rattle.job_words.specs.declared.fault.WordsFault.TheVariants.{Usage, Memory}
 use Rattle.job_words.specs.declared.job.Job.{Job}
 use Rattle.xmldsig.specs.Outcome.{Answer, IsValid, IsValidOutcome, gives_octets, is_built, is_validation, names_for, run_outcome, views_of, wanted}
 use Rattle.xmldsig.specs.Outcome.{OfReport, OfOctets}
@@ -15,6 +14,8 @@ use Rattle.xmldsig.specs.Texts.{refusal_line, report_text}
 use Rattle.xmldsig.specs.declared.ending.Refusal.{Refusal}
 use Rattle.xmldsig.specs.declared.ending.Ending.{Ending}
 use Rattle.xmldsig.specs.declared.ending.Ending.TheVariants as ending
+use Rattle.xmldsig.specs.declared.stop.Stop.{Stop}
+use Rattle.xmldsig.specs.declared.stop.Stop.TheVariants as stop
 use Rattle.xmldsig.specs.Ending.{everywhere, GrewTowards}
 
 -- the endings that words permit over every folder
@@ -78,6 +79,13 @@ ReportEnds views report ending.Memory = Unit {0}
 ReportEnds views report (ending.ViewFault view keeper) = IsSome views × IsValid report
 ReportEnds views report (ending.Reported told text) = (told ≡ report) × (text ≡ report_text report)
 ReportEnds views report other = ⊥
+
+-- how delivering octets ends, or why there are none
+abbrev pub OctetsEnd : Result (List ℕ) Stop → Ending → Type 0
+OctetsEnd (Ok octets) x = x ≡ ending.Written octets
+OctetsEnd (Err (stop.Refused cause)) x = RefusalEnds cause x
+OctetsEnd (Err stop.ReadFault) x = x ≡ ending.ReadFault
+OctetsEnd (Err stop.Memory) x = x ≡ ending.Memory
 
 -- over a folder that tells its files: what the words come to, what was asked for, and what the keepers have
 pub record SettledOver {K : Type 0} (pairs : K → Option (List Pair)) (named : Option Job) (files : Held) (x : Ending) (old new : Asking)

@@ -15,16 +15,10 @@ pub returns-in-Canon : goal.returns-in-Canon
 returns-in-Canon g c = rw c.in-Canon.is c.settle_form.ensures
 
 pub returns-in-Sign : goal.returns-in-Sign
-returns-in-Sign g c =
-    unbuilt_settled g.K.ViewKeeper.pairs g.K.ViewKeeper.faults c.args.job _ c.deliver_refusal-in-Sign.result _ _
-    c.deliver_refusal-in-Sign.ensures (λ files. rw c.in-Sign.is refl) (λ files. rw c.in-Sign.is refl)
+returns-in-Sign g c = rw c.in-Sign.is c.settle_signing.ensures
 
 pub returns-in-Template : goal.returns-in-Template
-returns-in-Template g c =
-    unbuilt_settled g.K.ViewKeeper.pairs g.K.ViewKeeper.faults c.args.job _ c.deliver_refusal-in-Template.result _ _
-    c.deliver_refusal-in-Template.ensures (λ files. rw c.in-Template.is refl) (λ files. rw c.in-Template.is refl)
+returns-in-Template g c = rw c.in-Template.is c.settle_template.ensures
 
 pub returns-in-SelfTest : goal.returns-in-SelfTest
-returns-in-SelfTest g c =
-    unbuilt_settled g.K.ViewKeeper.pairs g.K.ViewKeeper.faults c.args.job _ c.deliver_refusal-in-SelfTest.result _ _
-    c.deliver_refusal-in-SelfTest.ensures (λ files. rw c.in-SelfTest.is refl) (λ files. rw c.in-SelfTest.is refl)
+returns-in-SelfTest g c = rw c.in-SelfTest.is c.settle_self_test.ensures

@@ -1,0 +1,5 @@
+pub mod Folders
+pub mod Lines
+pub mod Pieces
+pub mod Refused
+pub mod Values

@@ -1,0 +1,4 @@
+pub mod Code
+pub mod Document
+pub mod Outcome
+pub mod Question

@@ -1,0 +1,30 @@
+use crate::document::document;
+use crate::testing::self_test;
+use std::test::Fail;
+
+#[test]
+fn documents(rt: HostRuntime) -> Result<(), Fail> {
+    let alloc = rt.alloc();
+    let one =
+        "<doc><p Id=\"p1\">Paragraph 1.</p><Signature xmlns=\"http://www.w3.org/2000/09/xmldsig#\"><SignedInfo><CanonicalizationMethod Algorithm=\"http://www.w3.org/2001/10/xml-exc-c14n#\"/><SignatureMethod Algorithm=\"http://www.w3.org/2001/04/xmldsig-more#hmac-sha256\"/><Reference URI=\"#p1\"><DigestMethod Algorithm=\"http://www.w3.org/2001/04/xmlenc#sha256\"/><DigestValue/></Reference></SignedInfo><SignatureValue/></Signature></doc>";
+    assert_eq!(rt; document(alloc, 1)?.as_str(), one);
+    Ok(())
+}
+
+#[test]
+fn lines(rt: HostRuntime) -> Result<(), Fail> {
+    let alloc = rt.alloc();
+    for (paragraphs, line) in [
+        (1, "selftest 1 references 1 octets 27 bytes 535 valid\n"),
+        (
+            1000,
+            "selftest 1000 references 64 octets 1838 bytes 42122 valid\n",
+        ),
+    ] {
+        let Ok(told) = self_test(alloc, paragraphs) else {
+            panic!(rt);
+        };
+        assert!(rt; told.bytes() == line.as_bytes(), "{}", line);
+    }
+    Ok(())
+}
