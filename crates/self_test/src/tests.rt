@@ -1,5 +1,7 @@
 use crate::document::document;
 use crate::testing::self_test;
+use std::alloc::Global;
+use std::process::Abort;
 use std::test::Fail;
 
 #[test]
@@ -11,20 +13,26 @@ fn documents(rt: HostRuntime) -> Result<(), Fail> {
     Ok(())
 }
 
+/// Asserts the line of so many paragraphs.
+fn expect(rt: &impl Abort, alloc: Global, paragraphs: u32, line: &str) {
+    let Ok(told) = self_test(alloc, paragraphs) else {
+        panic!(rt);
+    };
+    assert!(rt; told.bytes() == line.as_bytes(), "{}", line);
+}
+
 #[test]
-fn lines(rt: HostRuntime) -> Result<(), Fail> {
+fn lines(rt: HostRuntime) {
     let alloc = rt.alloc();
-    for (paragraphs, line) in [
-        (1, "selftest 1 references 1 octets 27 bytes 535 valid\n"),
-        (
-            1000,
-            "selftest 1000 references 64 octets 1838 bytes 42122 valid\n",
-        ),
-    ] {
-        let Ok(told) = self_test(alloc, paragraphs) else {
-            panic!(rt);
-        };
-        assert!(rt; told.bytes() == line.as_bytes(), "{}", line);
-    }
-    Ok(())
+    let one = "selftest 1 references 1 octets 27 bytes 535 valid\n";
+    expect(&rt, alloc, 1, one);
+    let thousand = "selftest 1000 references 64 octets 1838 bytes 42122 valid\n";
+    expect(&rt, alloc, 1000, thousand);
+}
+
+/// The largest number.
+#[test]
+fn a_hundred_thousand_paragraphs(rt: HostRuntime) {
+    let line = "selftest 100000 references 64 octets 1838 bytes 3489126 valid\n";
+    expect(&rt, rt.alloc(), 100_000, line);
 }

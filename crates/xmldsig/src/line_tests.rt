@@ -72,7 +72,7 @@ fn expect(
 ) -> Result<(), NoMemory> {
     let mut folder = folder_of(alloc, document)?;
     let words = words_of(alloc, line)?;
-    let mut out = MemSink::with_room(alloc, 1000)?;
+    let mut out = MemSink::with_room(alloc, 2000)?;
     let mut err = MemSink::with_room(alloc, end.room)?;
     let status = run(alloc, &words, &mut folder, keepers, &mut out, &mut err);
     assert!(rt; out.bytes() == end.out.as_bytes(), "{}", line);
@@ -550,7 +550,7 @@ fn made(rt: &impl Abort, alloc: Global, document: &str, line: &str) -> Result<St
     let mut folder = folder_of(alloc, document)?;
     let words = words_of(alloc, line)?;
     let mut keepers: Vec<Box<dyn ViewKeeper>> = Vec::new(alloc);
-    let mut out = MemSink::with_room(alloc, 1000)?;
+    let mut out = MemSink::with_room(alloc, 2000)?;
     let mut err = MemSink::with_room(alloc, 100)?;
     let status = run(alloc, &words, &mut folder, &mut keepers, &mut out, &mut err);
     assert_eq!(rt; status, Status::Done, "{}", line);
