@@ -3,3 +3,4 @@ pub mod Lines
 pub mod Pieces
 pub mod Refused
 pub mod Values
+mod Worked

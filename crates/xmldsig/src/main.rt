@@ -1,4 +1,4 @@
-//! `xmldsig`: validates XML signatures with HMAC keys, and says which part of a document was signed.
+//! `xmldsig`: validates XML signatures with HMAC keys, and says which part of a document was signed. Signs with such keys, too.
 #![tactic(auto)]
 
 mod ending;
