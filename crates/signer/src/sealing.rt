@@ -27,10 +27,12 @@ use std::alloc::Global;
 use xml_doc::Doc;
 use xml_read::read_document;
 
-/// The signature value, and whether the canonical SignedInfo is within its limit.
+/// What is made of the template with its digests filled in.
 #[derive(Drop)]
 pub(crate) struct Seal {
+    /// The signature value.
     pub(crate) value: Octets,
+    /// Whether the canonical SignedInfo is within its limit.
     pub(crate) fits: bool,
 }
 

@@ -13,6 +13,11 @@ use std::test::Fail;
 use uri_refs::{Base, Catalog, Place};
 use xml_read::read_document;
 
+/// The Transforms of a template.
+const TRANSFORMS: &str = "<ds:Transforms>\
+<ds:Transform Algorithm=\"http://www.w3.org/2000/09/xmldsig#enveloped-signature\"/>\
+<ds:Transform Algorithm=\"http://www.w3.org/2001/10/xml-exc-c14n#\"/></ds:Transforms>";
+
 fn place(rt: &impl Abort, alloc: Global) -> Place {
     let (Ok(base), Ok(catalog)) = (
         Base::read(alloc, "https://folder.invalid/"),
@@ -131,11 +136,8 @@ fn with(
 fn templates_are_refused(rt: HostRuntime) -> Result<(), Fail> {
     let alloc = rt.alloc();
     let template = template(&rt, alloc, "<doc>hi</doc>")?;
-    let transforms =
-        "<ds:Transforms><ds:Transform Algorithm=\"http://www.w3.org/2000/09/xmldsig#enveloped-signature\"/>\
-<ds:Transform Algorithm=\"http://www.w3.org/2001/10/xml-exc-c14n#\"/></ds:Transforms>";
     for (old, new, words) in [
-        (transforms, "", "CoversItself(1)"),
+        (TRANSFORMS, "", "CoversItself(1)"),
         (
             "<ds:DigestValue/>",
             "<ds:DigestValue><!--c--></ds:DigestValue>",
@@ -164,5 +166,28 @@ fn templates_are_refused(rt: HostRuntime) -> Result<(), Fail> {
         };
         assert_eq!(rt; found.as_str(), words);
     }
+    Ok(())
+}
+
+/// A Reference to a file, which is asked for when its digest is filled in, and again when its view is compared.
+#[test]
+fn files_are_asked_for_twice(rt: HostRuntime) -> Result<(), Fail> {
+    let alloc = rt.alloc();
+    let template = template(&rt, alloc, "<doc/>")?;
+    let octets = with(&rt, alloc, template.bytes(), TRANSFORMS, "")?;
+    let document = with(&rt, alloc, octets.as_bytes(), "URI=\"\"", "URI=\"a.txt\"")?;
+    let place = place(&rt, alloc);
+    let keys = keys(&rt, alloc);
+    let mut folder = MemFolder::new(alloc);
+    folder.add("a.txt", b"text")?;
+    let question = question(&keys, &place);
+    assert!(rt; fill(alloc, document.as_bytes(), &question, &mut folder).is_ok());
+    let mut names = String::new(alloc);
+    for k in 0..4 {
+        if let Some(name) = folder.asked_name(k) {
+            names.push_str(name)?;
+        }
+    }
+    assert_eq!(rt; names.as_str(), "a.txta.txt");
     Ok(())
 }
