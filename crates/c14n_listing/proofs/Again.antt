@@ -70,12 +70,12 @@ passes_second p (x ∷ a) b h = passes_second p a b h.1
 
 -- ---- texts and names
 
-text_of : (s : List Placed) → Passes is_char s → IsText (utf8 s)
+pub text_of : (s : List Placed) → Passes is_char s → IsText (utf8 s)
 text_of s h =
     let e = letters_of s h in
     (subst (Passes is_char) e (passes_bare is_char s h), sym (utf8_zeros (codes_of s)) ∙ ap utf8 e)
 
-text_both : (a b : List ℕ) → IsText a → IsText b → IsText (a ++ b)
+pub text_both : (a b : List ℕ) → IsText a → IsText b → IsText (a ++ b)
 text_both a b h k =
     let e : utf8 (letters a ++ letters b) ≡ a ++ b = utf8_append (letters a) (letters b) ∙ ap₂ (λ (u v : List ℕ). u ++ v) (sym h.1) (sym k.1) in
     subst IsText e (text_of (letters a ++ letters b) (passes_both is_char (letters a) (letters b) h.0 k.0))
