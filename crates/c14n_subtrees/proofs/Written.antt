@@ -19,7 +19,7 @@ use Rattle.c14n_text.specs.Attributes.{is_xml, xml_attributes, xml_above, is_imp
 use Rattle.c14n_text.specs.Bases.{is_base, bases, omitted, omitted_bases, with_base, with_bases, is_eleven, is_none, joined_base, base_place, is_own, written_attributes}
 use Rattle.c14n_subtrees.proofs.Lists.{Each, each_passing, each_append, each_told, each_filtered, each_flat}
 
-attribute_kind : (k : Kind) → is_attribute k ≡ true → k ≡ kinds.Attribute
+pub attribute_kind : (k : Kind) → is_attribute k ≡ true → k ≡ kinds.Attribute
 attribute_kind kinds.Attribute e = refl
 attribute_kind kinds.Root e = absurd (false≢true e)
 attribute_kind kinds.Element e = absurd (false≢true e)
