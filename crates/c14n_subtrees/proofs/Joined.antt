@@ -1,8 +1,8 @@
 -- A joined value is a text where its base and the value below are texts: values are cut beside octets of ASCII alone.
-use Rattle.std.proofs.Common.{◌≡◌, ℕ, zero, suc, ◌+◌, ◌-◌, ◌<◌, ◌≤◌, Bool, true, false, cond, not, ◌&&◌, ◌||◌, ◌⊎◌, eqb, ltb, List, [], ◌∷◌, ◌++◌, length, take, drop, get_or, reverse, Option, Some, None, refl, sym, ap, subst, ◌∙◌, arith, inl, inr, take-append-drop, take_at, length-append, length-drop}
+use Rattle.std.proofs.Common.{◌≡◌, ℕ, zero, suc, ◌+◌, ◌<◌, ◌≤◌, Bool, true, false, not, ◌&&◌, eqb, ltb, List, [], ◌∷◌, ◌++◌, length, take, drop, get_or, reverse, Option, Some, None, refl, sym, ap, subst, ◌∙◌, arith, inl, inr, take-append-drop, take_at, length-append, length-drop}
 use Rattle.std.specs.Prelude.{codes, if◌then◌else◌, is_some}
-use Rattle.std.specs.List.{list_any, list_all, flat_map, position_or_len, before_first, slice_split}
-use Rattle.std.specs.Str.{chars, IsUtf8, IsCharBoundary, bytes_eq}
+use Rattle.std.specs.List.{list_all, flat_map, position_or_len}
+use Rattle.std.specs.Str.{chars, IsUtf8, IsCharBoundary}
 use lib.Utf8.{scalar, scalars}
 use Rattle.std.proofs.lemmas.Bool.{cases_lt, false≢true, and_parts, and_from, eqb-true, ltb-true}
 use Rattle.std.proofs.lemmas.Str.{IsUtf8-take, IsUtf8-drop, IsCharBoundary-end, IsCharBoundary-before_ascii, IsCharBoundary-after_ascii, chars-append, encodes-chars}
@@ -11,9 +11,9 @@ use Rattle.std.proofs.Math.ListN.{get_or-append}
 use Rattle.std.proofs.Math.Seq.{get_or-append_seam}
 use mathlib.Core.List.{reverse_aux}
 use Rattle.xml_names.specs.Characters.{is_char}
-use Rattle.xml_syntax.specs.Characters.{Placed, Passes}
+use Rattle.xml_syntax.specs.Characters.{Passes}
 use Rattle.xml_syntax.proofs.Runs.{or_true}
-use Rattle.c14n_bases.specs.Join.{is_one_of, before, from_first, begins, has_scheme, scheme_of, behind_scheme, authority_of, behind_authority, query_of, Parts, cut, is_slash, segments, is_same, is_up, upwards, add, added, after_slash, between_slashes, path_of, last_segment, directory, is_absolute, is_open, cleaned, clean, is_dots, base_path, relative_path, joined_path, first_some, joined_query, below, scheme_octets, authority_octets, query_octets, put_together, cleaned_value, join, is_empty}
+use Rattle.c14n_bases.specs.Join.{is_one_of, before, from_first, begins, has_scheme, scheme_of, behind_scheme, authority_of, behind_authority, query_of, Parts, cut, is_slash, segments, is_same, is_up, upwards, add, added, after_slash, between_slashes, path_of, last_segment, directory, is_absolute, is_open, clean, is_dots, base_path, relative_path, joined_path, first_some, joined_query, below, scheme_octets, authority_octets, query_octets, cleaned_value, join, is_empty}
 use Rattle.c14n_bases.proofs.SegmentLemmas.{segments_one, segments_first, directory-last, directory-form}
 use Rattle.c14n_listing.specs.Tidy.{letters, IsText}
 use Rattle.c14n_listing.proofs.Letters.{zeros, utf8_zeros, char_scalar}

@@ -1,13 +1,13 @@
 -- No tag of the tree has a name twice.
 use Rattle.std.proofs.Common.{◌≡◌, ◌≢◌, ℕ, zero, suc, ◌+◌, ◌-◌, ◌<◌, ◌≤◌, Bool, true, false, cond, not, ◌&&◌, ◌||◌, ◌⊎◌, eqb, List, [], ◌∷◌, ◌++◌, length, map, Option, Some, None, option_map, refl, sym, ap, ap₂, subst, ◌∙◌, arith, inl, inr}
 use Rattle.std.specs.Prelude.{codes, if◌then◌else◌}
-use Rattle.std.specs.List.{flat_map, filter, find, list_any, range_with_len}
+use Rattle.std.specs.List.{flat_map, filter, find, range_with_len}
 use Rattle.std.specs.Str.{bytes_eq}
 use Rattle.std.specs.Cmp.{IsTotalOrder}
 use Rattle.std.specs.Cmp.Lexicographic.{slice_cmp}
 use Rattle.std.specs.Ordering.{nat_cmp, ordering_then}
 use Rattle.std.specs.declared.cmp.Ordering.TheVariants.{Less, Equal}
-use Rattle.std.proofs.lemmas.Bool.{cases_lt, false≢true, and_parts, and_from, eqb-true, eq-eqb}
+use Rattle.std.proofs.lemmas.Bool.{false≢true, and_parts, and_from, eqb-true}
 use Rattle.std.proofs.lemmas.Cmp.{nat_list_cmp_total, on_total, then_total, tied_itself}
 use Rattle.std.proofs.lemmas.Slice.Eq.{bytes_eq-Decides}
 use Rattle.sig_base.proofs.MethodLemmas.{differ}
@@ -21,23 +21,23 @@ use Rattle.xml_doc.specs.Kinds.{is_namespace, is_attribute, is_field}
 use Rattle.xml_doc.specs.Rows.{RowOf}
 use Rattle.xml_doc.specs.Shape.{row_at, IsWellShaped}
 use Rattle.xml_doc.specs.Fields.{namespace_rows, attribute_rows, is_namespace_of, is_attribute_of}
-use Rattle.xml_doc.proofs.FieldLemmas.{namespace_is, inner_no_field}
+use Rattle.xml_doc.proofs.FieldLemmas.{namespace_is}
 use Rattle.xml_syntax.specs.Tree.{Attribute}
 use Rattle.xml_syntax.specs.Grammar.{has_name, are_apart}
-use Rattle.xml_resolve.specs.Resolve.{Declaration, is_declaration, declaration_of, attribute_uri}
+use Rattle.xml_resolve.specs.Resolve.{is_declaration, attribute_uri}
 use Rattle.c14n_text.specs.Escapes.{qname}
 use Rattle.c14n_text.specs.Rows.{kind_of, parent_of}
 use Rattle.c14n_text.specs.Namespaces.{Rule, visibly_utilizes, follows_inclusive_rule, nearest, has_binding, renders, is_default, has_default, is_written, undeclares}
 use Rattle.c14n_text.specs.Attributes.{is_xml, imported, attribute_cmp, in_order, imports_attributes}
 use Rattle.c14n_text.specs.Bases.{joined_base, base_place, is_own, written_attributes}
 use Rattle.c14n_text.proofs.ChoiceLemmas.{Ascending, in_order-ascends}
-use Rattle.c14n_subtrees.specs.Subtree.{declaration_name, undeclared, declared, declarations, attribute_at, attributes_at, tag_at}
+use Rattle.c14n_subtrees.specs.Subtree.{declaration_name, undeclared, declared, declarations, attribute_at, tag_at}
 use Rattle.c14n_subtrees.specs.Spelled.{HaveOwnNames}
 use Rattle.c14n_subtrees.specs.Rendered.{has_prefix_of, bound_at}
 use Rattle.c14n_subtrees.specs.Named.{IsWrittenSo, AreWrittenSo, IsNamed, DeclaresPrefix}
-use Rattle.c14n_subtrees.proofs.Lists.{Each, each_passing, each_filter, each_told, find_some, find_none, any_false}
+use Rattle.c14n_subtrees.proofs.Lists.{Each, each_passing, each_filter, each_told, find_some, any_false}
 use Rattle.c14n_subtrees.proofs.Prefixes.{IsOf, each_of, between_parent, unique}
-use Rattle.c14n_subtrees.proofs.Written.{IsAttributeRow, IsAttributeOf, IsXmlRow, attribute_kind, each_attribute, written_each}
+use Rattle.c14n_subtrees.proofs.Written.{IsAttributeRow, IsAttributeOf, IsXmlRow, MayWrite, attribute_kind, written_each}
 use Rattle.c14n_subtrees.proofs.Declarations.{default_declared}
 
 -- ---- lists of attributes
@@ -108,7 +108,7 @@ less_equal e = cc
 
 module _ (rows : List RowOf) where
   -- each goes behind the one before it
-  abbrev Ascends : List ℕ → Type 0
+  abbrev pub Ascends : List ℕ → Type 0
   Ascends [] = Unit {0}
   Ascends (a ∷ more) = Each (λ z. attribute_cmp rows a z ≡ Less) more × Ascends more
 
@@ -130,6 +130,14 @@ module _ (rows : List RowOf) where
 
   total : IsTotalOrder (attribute_cmp rows)
   total = then_total (on_total (λ a. (row_at rows a).uri) nat_list_cmp_total) (on_total (λ a. (row_at rows a).local_name) nat_list_cmp_total)
+
+  -- attributes that stand apart differ in their namespace name or their local name
+  pub names_apart : (a b : ℕ) → attribute_cmp rows a b ≡ Less → (row_at rows a).uri ≡ (row_at rows b).uri → (row_at rows a).local_name ≡ (row_at rows b).local_name → ⊥
+  names_apart a b less u v =
+      let equal : attribute_cmp rows a b ≡ Equal =
+      ap₂ (λ (m n : List ℕ). ordering_then (slice_cmp nat_cmp (row_at rows a).uri m) (slice_cmp nat_cmp (row_at rows a).local_name n)) (sym u) (sym v)
+      ∙ ap₂ ordering_then (tied_itself nat_list_cmp_total (row_at rows a).uri) (tied_itself nat_list_cmp_total (row_at rows a).local_name) in
+      less_equal (sym less ∙ equal)
 
   module _ (w : IsWellShaped rows) (x : ℕ) where
     -- between two attributes of an element stand only attributes of it
@@ -199,10 +207,10 @@ module _ (rows : List RowOf) (w : IsWellShaped rows) (written : AreWrittenSo row
   abbrev name : ℕ → List ℕ
   name z = qname (prefix z) (local z)
 
-  namespace_written : (x z : ℕ) → IsOf rows w x z → IsWrittenSo (row_at rows z) kinds.Namespace
+  pub namespace_written : (x z : ℕ) → IsOf rows w x z → IsWrittenSo (row_at rows z) kinds.Namespace
   namespace_written x z h = subst (IsWrittenSo (row_at rows z)) h.kind (written z h.within)
 
-  attribute_written : (z : ℕ) → IsAttributeRow rows z → IsWrittenSo (row_at rows z) kinds.Attribute
+  pub attribute_written : (z : ℕ) → IsAttributeRow rows z → IsWrittenSo (row_at rows z) kinds.Attribute
   attribute_written z h = subst (IsWrittenSo (row_at rows z)) h.1 (written z h.0)
 
   -- no attribute is a declaration
@@ -237,7 +245,7 @@ module _ (rows : List RowOf) (w : IsWellShaped rows) (written : AreWrittenSo row
           absurd (reserved p f (sym (ap₂ declared_fault r.2 r.3) ∙ s.1 (ap (λ (q : List ℕ). bytes_eq q (codes "xml")) r.2 ∙ f)))
 
   -- and `xml` has its own name
-  xml_named : (x : ℕ) (v : List ℕ) → x < length rows → kind_of rows x ≡ kinds.Element → bound_at rows x (codes "xml") ≡ Some v → v ≡ xml_name
+  pub xml_named : (x : ℕ) (v : List ℕ) → x < length rows → kind_of rows x ≡ kinds.Element → bound_at rows x (codes "xml") ≡ Some v → v ≡ xml_name
   xml_named x v lt kind e =
       let r = found_row x (codes "xml") v e in
       let k = w.namespaces.xml_bound x lt kind in
@@ -246,11 +254,11 @@ module _ (rows : List RowOf) (w : IsWellShaped rows) (written : AreWrittenSo row
       let same : r.0 ≡ k.0 = unique rows w x r.0 k.0 r.1 is (r.2 ∙ sym k.4) in
       sym r.3 ∙ ap (λ (z : ℕ). (row_at rows z).value) same ∙ k.5
 
-  attribute_named : (z : ℕ) → IsAttributeRow rows z → attribute_uri (bound_at rows (parent_of rows z)) (prefix z) ≡ Some (uri z)
+  pub attribute_named : (z : ℕ) → IsAttributeRow rows z → attribute_uri (bound_at rows (parent_of rows z)) (prefix z) ≡ Some (uri z)
   attribute_named z h = named.attributes z h.0 h.1
 
   -- the prefix of an attribute of the namespace of `xml`
-  xml_prefix : (z : ℕ) → IsXmlRow rows z → prefix z ≡ codes "xml"
+  pub xml_prefix : (z : ℕ) → IsXmlRow rows z → prefix z ≡ codes "xml"
   xml_prefix z h = by (is_empty (prefix z)) refl
     where
       is : uri z ≡ xml_name
@@ -266,10 +274,6 @@ module _ (rows : List RowOf) (w : IsWellShaped rows) (written : AreWrittenSo row
           (sym (ap (λ (b : Bool). cond b (Some []) (bound_at rows (parent_of rows z) (prefix z))) e) ∙ attribute_named z h.0 ∙ ap (λ (u : List ℕ). Some u) is)
 
   module _ (x : ℕ) (there : x < length rows) (element : kind_of rows x ≡ kinds.Element) where
-    -- an attribute that x may write
-    abbrev MayWrite : ℕ → Type 0
-    MayWrite z = IsAttributeRow rows z × ((parent_of rows z ≡ x) ⊎ (is_xml rows z ≡ true))
-
     own_named : (z : ℕ) → IsAttributeRow rows z → parent_of rows z ≡ x → attribute_uri (bound_at rows x) (prefix z) ≡ Some (uri z)
     own_named z h up = ap (λ (e : ℕ). attribute_uri (bound_at rows e) (prefix z)) (sym up) ∙ attribute_named z h
 
@@ -279,7 +283,7 @@ module _ (rows : List RowOf) (w : IsWellShaped rows) (written : AreWrittenSo row
         let p : prefix a ≡ codes "xml" = same ∙ xml_prefix b k in
         xml_named x (uri a) there element (ap (attribute_uri (bound_at rows x)) (sym p) ∙ own_named a h up) ∙ sym ((bytes_eq-Decides (uri b) xml_name).0 k.1)
 
-    same_uri : (a b : ℕ) → MayWrite a → MayWrite b → prefix a ≡ prefix b → uri a ≡ uri b
+    same_uri : (a b : ℕ) → MayWrite rows x a → MayWrite rows x b → prefix a ≡ prefix b → uri a ≡ uri b
     same_uri a b h k same = by h.1 k.1
       where
         by : (parent_of rows a ≡ x) ⊎ (is_xml rows a ≡ true) → (parent_of rows b ≡ x) ⊎ (is_xml rows b ≡ true) → uri a ≡ uri b
@@ -291,7 +295,7 @@ module _ (rows : List RowOf) (w : IsWellShaped rows) (written : AreWrittenSo row
         by (inr is) (inr also) = (bytes_eq-Decides (uri a) xml_name).0 is ∙ sym ((bytes_eq-Decides (uri b) xml_name).0 also)
 
     -- two attributes that stand apart have different names
-    names_differ : (a b : ℕ) → MayWrite a → MayWrite b → attribute_cmp rows a b ≡ Less → name a ≢ name b
+    names_differ : (a b : ℕ) → MayWrite rows x a → MayWrite rows x b → attribute_cmp rows a b ≡ Less → name a ≢ name b
     names_differ a b h k less e =
         let s = attribute_written a h.0 in
         let t = attribute_written b k.0 in
@@ -299,23 +303,20 @@ module _ (rows : List RowOf) (w : IsWellShaped rows) (written : AreWrittenSo row
         let pair : (prefix a, local a) ≡ (prefix b, local b) = cc in
         let u = same_uri a b h k (ap (λ (q : List ℕ × List ℕ). q.0) pair) in
         let v = ap (λ (q : List ℕ × List ℕ). q.1) pair in
-        let equal : attribute_cmp rows a b ≡ Equal =
-        ap₂ (λ (m n : List ℕ). ordering_then (slice_cmp nat_cmp (uri a) m) (slice_cmp nat_cmp (local a) n)) (sym u) (sym v)
-        ∙ ap₂ ordering_then (tied_itself nat_list_cmp_total (uri a)) (tied_itself nat_list_cmp_total (local a)) in
-        less_equal (sym less ∙ equal)
+        names_apart rows a b less u v
 
     -- ---- the attributes that are no declarations
 
-    none_alike : (joined : Option (ℕ × List ℕ)) (a : ℕ) (zs : List ℕ) → MayWrite a → Each MayWrite zs → Each (λ z. attribute_cmp rows a z ≡ Less) zs
+    none_alike : (joined : Option (ℕ × List ℕ)) (a : ℕ) (zs : List ℕ) → MayWrite rows x a → Each (MayWrite rows x) zs → Each (λ z. attribute_cmp rows a z ≡ Less) zs
         → NoneNamed (name a) (map (attribute_at rows joined) zs)
     none_alike joined a [] h k less = tt
     none_alike joined a (z ∷ zs) h k less = (names_differ a z h k.0 less.0, none_alike joined a zs h k.1 less.1)
 
-    attributes_distinct : (joined : Option (ℕ × List ℕ)) (zs : List ℕ) → Each MayWrite zs → Ascends rows zs → AreDistinct (map (attribute_at rows joined) zs)
+    attributes_distinct : (joined : Option (ℕ × List ℕ)) (zs : List ℕ) → Each (MayWrite rows x) zs → Ascends rows zs → AreDistinct (map (attribute_at rows joined) zs)
     attributes_distinct joined [] h asc = tt
     attributes_distinct joined (z ∷ zs) h asc = (none_alike joined z zs h.0 h.1 asc.0, attributes_distinct joined zs h.1 asc.1)
 
-    none_declaring : (joined : Option (ℕ × List ℕ)) (p : List ℕ) (zs : List ℕ) → DeclaresPrefix p → Each MayWrite zs
+    none_declaring : (joined : Option (ℕ × List ℕ)) (p : List ℕ) (zs : List ℕ) → DeclaresPrefix p → Each (MayWrite rows x) zs
         → NoneNamed (declaration_name p) (map (attribute_at rows joined) zs)
     none_declaring joined p [] d h = tt
     none_declaring joined p (z ∷ zs) d h = (no_declaration p z d h.0.0, none_declaring joined p zs d h.1)
@@ -410,7 +411,7 @@ module _ (rows : List RowOf) (w : IsWellShaped rows) (written : AreWrittenSo row
 
       -- ---- the tag
 
-      declared_others : (joined : Option (ℕ × List ℕ)) (zs ys : List ℕ) → Each MayWrite zs → Each (IsOf rows w x) ys
+      declared_others : (joined : Option (ℕ × List ℕ)) (zs ys : List ℕ) → Each (MayWrite rows x) zs → Each (IsOf rows w x) ys
           → AreOthers (flat_map (declared rows set rule x) ys) (map (attribute_at rows joined) zs)
       declared_others joined zs [] h k = tt
       declared_others joined zs (y ∷ ys) h k =
@@ -420,7 +421,7 @@ module _ (rows : List RowOf) (w : IsWellShaped rows) (written : AreWrittenSo row
           by true = (none_declaring joined (local y) zs (namespace_written x y k.0).0 h, tt)
           by false = tt
 
-      declarations_others : (joined : Option (ℕ × List ℕ)) (zs : List ℕ) → Each MayWrite zs → AreOthers (declarations rows set rule x) (map (attribute_at rows joined) zs)
+      declarations_others : (joined : Option (ℕ × List ℕ)) (zs : List ℕ) → Each (MayWrite rows x) zs → AreOthers (declarations rows set rule x) (map (attribute_at rows joined) zs)
       declarations_others joined zs h =
           others_both (undeclared rows set rule x) (flat_map (declared rows set rule x) (namespace_rows rows x)) (map (attribute_at rows joined) zs)
           (by (undeclares rows set rule x)) (declared_others joined zs (namespace_rows rows x) h (each_of rows w x))
@@ -429,7 +430,7 @@ module _ (rows : List RowOf) (w : IsWellShaped rows) (written : AreWrittenSo row
           by true = (none_declaring joined [] zs default_declared h, tt)
           by false = tt
 
-      written_ascends : (joined : Option (ℕ × List ℕ)) → Ascends rows (written_attributes rows set rule joined x)
+      pub written_ascends : (joined : Option (ℕ × List ℕ)) → Ascends rows (written_attributes rows set rule joined x)
       written_ascends joined = by (imports_attributes rows set rule x)
         where
           by : (b : Bool) → Ascends rows (if b then in_order rows (filter (is_own rows set joined) (attribute_rows rows x) ++ imported rows rule x ++ base_place joined) else filter set (attribute_rows rows x))
@@ -441,7 +442,7 @@ module _ (rows : List RowOf) (w : IsWellShaped rows) (written : AreWrittenSo row
       tag_apart =
           let joined = joined_base rows set rule x in
           let zs = written_attributes rows set rule joined x in
-          let each : Each MayWrite zs = written_each rows w set rule MayWrite x (λ z h. (h.0, inl h.1)) (λ z h. (h.0, inr h.1)) in
+          let each : Each (MayWrite rows x) zs = written_each rows w set rule (MayWrite rows x) x (λ z h. (h.0, inl h.1)) (λ z h. (h.0, inr h.1)) in
           distinct_apart (tag_at rows set rule x).attributes
           (distinct_both (declarations rows set rule x) (map (attribute_at rows joined) zs) declarations_distinct (attributes_distinct joined zs each (written_ascends joined)) (declarations_others joined zs each))
 

@@ -1,8 +1,7 @@
 -- The namespace names of each document's rows are those that their prefixes have.
 use Rattle.std.proofs.Common.{◌≡◌, ◌≢◌, ℕ, zero, suc, ◌+◌, ◌-◌, ◌<◌, ◌≤◌, Bool, true, false, cond, ◌&&◌, eqb, List, [], ◌∷◌, ◌++◌, length, drop, Option, Some, None, option_map, refl, sym, ap, subst, ◌∙◌, append_assoc, append-nil, arith, inl, inr, length-append}
-use Rattle.std.specs.Prelude.{is_some, if◌then◌else◌}
+use Rattle.std.specs.Prelude.{is_some}
 use Rattle.std.specs.List.{find}
-use Rattle.std.specs.Str.{bytes_eq}
 use Rattle.std.specs.BTreeMap.{insert_entry}
 use Rattle.std.specs.Ordering.{match_ordering}
 use Rattle.std.specs.declared.cmp.Ordering.{Ordering}
@@ -38,7 +37,7 @@ use Rattle.xml_resolve.proofs.ScopedLaws.{begins_namespace, names_in, named_fron
 use Rattle.xml_resolve.proofs.ShapedLaws.{rows_shaped}
 use Rattle.c14n_subtrees.specs.Rendered.{has_prefix_of, bound_at}
 use Rattle.c14n_subtrees.specs.Named.{element_uri, IsNamed}
-use Rattle.c14n_subtrees.proofs.Lists.{Each, find_some, find_none}
+use Rattle.c14n_subtrees.proofs.Lists.{find_some, find_none}
 use Rattle.c14n_subtrees.proofs.Prefixes.{IsOf, each_of, at_row, between, unique}
 
 -- ---- tags whose names are resolved

@@ -1,7 +1,7 @@
 -- The rows of the attributes that an element writes: each is its own or one of the namespace of `xml`.
-use Rattle.std.proofs.Common.{◌≡◌, ℕ, ◌+◌, ◌-◌, ◌<◌, Bool, true, false, not, ◌&&◌, eqb, List, [], ◌∷◌, ◌++◌, length, Option, Some, None, refl, arith}
+use Rattle.std.proofs.Common.{◌≡◌, ℕ, ◌-◌, ◌<◌, Bool, true, false, not, ◌&&◌, ◌⊎◌, eqb, List, [], ◌∷◌, ◌++◌, length, Option, Some, None, refl, arith}
 use Rattle.std.specs.Prelude.{codes, if◌then◌else◌}
-use Rattle.std.specs.List.{flat_map, filter}
+use Rattle.std.specs.List.{filter}
 use Rattle.std.specs.Str.{bytes_eq}
 use Rattle.std.specs.declared.cmp.Ordering.{Ordering}
 use Rattle.std.specs.declared.cmp.Ordering.TheVariants.{Less, Equal, Greater}
@@ -40,6 +40,10 @@ module _ (rows : List RowOf) where
   -- one of the namespace of `xml`
   abbrev pub IsXmlRow : ℕ → Type 0
   IsXmlRow z = IsAttributeRow z × (is_xml rows z ≡ true)
+
+  -- one that element x may write
+  abbrev pub MayWrite : ℕ → ℕ → Type 0
+  MayWrite x z = IsAttributeRow z × ((parent_of rows z ≡ x) ⊎ (is_xml rows z ≡ true))
 
   pub each_attribute : IsWellShaped rows → (x : ℕ) → Each (IsAttributeOf x) (attribute_rows rows x)
   each_attribute w x =
