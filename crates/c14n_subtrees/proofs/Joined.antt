@@ -173,9 +173,10 @@ slash_low c e = low_stop (codes "/") c refl e
 first_segment : (w : List ℕ) → IsText w → position_or_len is_slash w < length w
     → IsText (take (position_or_len is_slash w) w) × IsText (drop (position_or_len is_slash w + 1) w)
 first_segment w h within =
-    let low = slash_low (get_or w (position_or_len is_slash w) 0) (passes_at_first is_slash w 0 within) in
-    ((cut_at w (position_or_len is_slash w) h (IsCharBoundary-before_ascii w (position_or_len is_slash w) within low)).0,
-    (cut_behind w (position_or_len is_slash w) h within low).1)
+    let low = slash_low (get_or w (position_or_len is_slash w) 0) (passes_at_first is_slash w 0 within) in (
+      (cut_at w (position_or_len is_slash w) h (IsCharBoundary-before_ascii w (position_or_len is_slash w) within low)).0,
+      (cut_behind w (position_or_len is_slash w) h within low).1,
+    )
 
 segments_text : (fuel : ℕ) (w : List ℕ) → length w ≤ fuel → IsText w → Texts (segments w)
 segments_text zero w le h = subst Texts (sym (segments_one w (omega arith))) (h, tt)

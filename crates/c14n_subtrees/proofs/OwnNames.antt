@@ -186,9 +186,11 @@ module _ (rows : List RowOf) where
         rest = filter (is_attribute_of rows x) (range_with_len (a + 1) n)
 
         go : (b : Bool) → is_attribute_of rows x a ≡ b → Ascends rest → Ascends (cond b (a ∷ rest) rest)
-        go true here more =
-            (each_passing (λ z. attribute_cmp rows a z ≡ Less) (is_attribute_of rows x) (a + 1) n
-            (λ j ge lt passes. rising (j - a - 1) a j (omega arith) (of_attribute a (omega arith) here) (of_attribute j (omega arith) passes)), more)
+        go true here more = (
+          each_passing (λ z. attribute_cmp rows a z ≡ Less) (is_attribute_of rows x) (a + 1) n
+              (λ j ge lt passes. rising (j - a - 1) a j (omega arith) (of_attribute a (omega arith) here) (of_attribute j (omega arith) passes)),
+          more,
+        )
         go false here more = more
 
     own_ascends : Ascends (attribute_rows rows x)
