@@ -3,7 +3,7 @@ use Rattle.std.proofs.Common.{◌≡◌, ℕ, ◌+◌, Bool, true, false, cond, 
 use Rattle.std.specs.Prelude.{encode_utf8_all}
 use Rattle.std.specs.Char.{len_utf8}
 use lib.Utf8.{scalar, scalars, low_scalar}
-use Rattle.std.proofs.lemmas.Bool.{false≢true, and_parts, and_from, eqb-true, leb-true, le-leb, lt-ltb}
+use Rattle.std.proofs.lemmas.Bool.{false≢true, and_parts, and_from, eqb-true, leb-true, le-leb, lt-ltb, not-true}
 use Rattle.xml_names.specs.Characters.{Range, in_range, in_some, char_ranges, name_start_ranges, more_name_ranges, is_char, is_name_start, is_name_char}
 use Rattle.xml_syntax.specs.Characters.{Placed, mark, placed, characters, utf8, begins_with, Passes, Stops, Lacks}
 use Rattle.xml_syntax.specs.Code.Characters.{EndsWithout}
@@ -43,16 +43,12 @@ abbrev pub all_clean : List ℕ → Bool
 all_clean [] = true
 all_clean (c ∷ cs) = is_char c && (not (eqb c 13) && all_clean cs)
 
-pub not_true : (b : Bool) → not b ≡ true → b ≡ false
-not_true true e = sym e
-not_true false e = refl
-
 pub clean_by : (cs : List ℕ) → all_clean cs ≡ true → Clean cs
 clean_by [] e = tt
 clean_by (c ∷ cs) e =
     let p = and_parts (is_char c) (not (eqb c 13) && all_clean cs) e in
     let q = and_parts (not (eqb c 13)) (all_clean cs) p.1 in
-    (p.0, not_true (eqb c 13) q.0, clean_by cs q.1)
+    (p.0, not-true (eqb c 13) q.0, clean_by cs q.1)
 
 and_no : (b : Bool) → (b && false) ≡ false
 and_no true = refl
@@ -202,7 +198,7 @@ name_run at (c ∷ cs) w h = (h.0, passes_run is_name_char (at + len_utf8 c) cs 
 
 pub clean_of : (cs : List ℕ) → Passes is_char (zeros cs) → Passes is_no_return (zeros cs) → Clean cs
 clean_of [] p q = tt
-clean_of (c ∷ cs) p q = (p.0, not_true (eqb c 13) q.0, clean_of cs p.1 q.1)
+clean_of (c ∷ cs) p q = (p.0, not-true (eqb c 13) q.0, clean_of cs p.1 q.1)
 
 name_no_return : (c : ℕ) → is_name_char c ≡ true → eqb c 13 ≡ false
 name_no_return c n = by (eqb c 13) refl

@@ -1,5 +1,5 @@
 -- Names and declarations that are put together again from their parts.
-use Rattle.std.proofs.Common.{◌≡◌, ℕ, Bool, true, false, ⊎_elim, List, [], ◌∷◌, ◌++◌, Option, Some, None, refl, sym, ap, subst, ◌∙◌, append_assoc}
+use Rattle.std.proofs.Common.{◌≡◌, ℕ, true, false, ⊎_elim, List, [], ◌∷◌, ◌++◌, Option, Some, None, refl, sym, ap, subst, ◌∙◌, append_assoc}
 use Rattle.std.specs.Prelude.{codes, if◌then◌else◌, is_none}
 use Rattle.std.specs.Str.{chars, bytes_eq, IsUtf8}
 use Rattle.std.proofs.lemmas.Bool.{false≢true}
@@ -7,7 +7,7 @@ use Rattle.std.proofs.lemmas.Slice.Eq.{bytes_eq-Decides}
 use Rattle.xml_names.specs.Names.{qname_of, is_ncname, IsUnprefixed, IsPrefixed, IsQName}
 use Rattle.xml_names.specs.Scopes.{is_empty, declared_fault}
 use Rattle.xml_names.proofs.QNames.{split_qnames}
-use Rattle.xml_resolve.specs.Resolve.{Declaration, is_declaration, declaration_of}
+use Rattle.xml_resolve.specs.Resolve.{is_declaration, declaration_of}
 use Rattle.c14n_text.specs.Escapes.{qname}
 use Rattle.c14n_listing.specs.Tidy.{IsName, IsText}
 use Rattle.c14n_listing.proofs.Letters.{name_clean, name_octets, scalars_clean}

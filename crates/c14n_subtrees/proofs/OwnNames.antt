@@ -27,7 +27,7 @@ use Rattle.xml_syntax.specs.Grammar.{has_name, are_apart}
 use Rattle.xml_resolve.specs.Resolve.{is_declaration, attribute_uri}
 use Rattle.c14n_text.specs.Escapes.{qname}
 use Rattle.c14n_text.specs.Rows.{kind_of, parent_of}
-use Rattle.c14n_text.specs.Namespaces.{Rule, visibly_utilizes, follows_inclusive_rule, nearest, has_binding, renders, is_default, has_default, is_written, undeclares}
+use Rattle.c14n_text.specs.Namespaces.{Rule, is_default, is_written, undeclares}
 use Rattle.c14n_text.specs.Attributes.{is_xml, imported, attribute_cmp, in_order, imports_attributes}
 use Rattle.c14n_text.specs.Bases.{joined_base, base_place, is_own, written_attributes}
 use Rattle.c14n_text.proofs.ChoiceLemmas.{Ascending, in_order-ascends}
@@ -37,6 +37,7 @@ use Rattle.c14n_subtrees.specs.Rendered.{has_prefix_of, bound_at}
 use Rattle.c14n_subtrees.specs.Named.{IsWrittenSo, AreWrittenSo, IsNamed, DeclaresPrefix}
 use Rattle.c14n_subtrees.proofs.Lists.{Each, each_passing, each_filter, each_told, find_some, any_false}
 use Rattle.c14n_subtrees.proofs.Prefixes.{IsOf, each_of, between_parent, unique}
+use Rattle.c14n_subtrees.proofs.Shown.{written_parts, undeclared_parts}
 use Rattle.c14n_subtrees.proofs.Written.{IsAttributeRow, IsAttributeOf, IsXmlRow, MayWrite, attribute_kind, written_each}
 use Rattle.c14n_subtrees.proofs.Declarations.{default_declared}
 
@@ -82,10 +83,6 @@ same_declaration [] [] e = refl
 same_declaration [] (d ∷ q) e = absurd cc
 same_declaration (c ∷ p) [] e = absurd cc
 same_declaration (c ∷ p) (d ∷ q) e = cc
-
-some_text : (b : Bool) → not b ≡ true → b ≡ false
-some_text true e = sym e
-some_text false e = refl
 
 -- no other prefix than `xml` may have its name
 reserved : (p : List ℕ) → bytes_eq p (codes "xml") ≡ false → declared_fault p xml_name ≡ None → ⊥
@@ -326,24 +323,6 @@ module _ (rows : List RowOf) (w : IsWellShaped rows) (written : AreWrittenSo row
     module _ (set : ℕ → Bool) (rule : Rule) where
       -- ---- the declarations
 
-      -- what is written is in the set
-      written_member : (z : ℕ) → is_written rows set rule x z ≡ true → set z ≡ true
-      written_member z e =
-          let c = has_binding rows set (local z) (row_at rows z).value (nearest rows set rule (local z) x) in
-          let serves = follows_inclusive_rule rule (local z) || (set x && visibly_utilizes rows set x (local z)) in
-          let is_xml_prefix = bytes_eq (local z) (codes "xml") in
-          let p = and_parts ((set z && not is_xml_prefix) && serves) (not c) e in
-          let q = and_parts (set z && not is_xml_prefix) serves p.0 in
-          (and_parts (set z) (not is_xml_prefix) q.0).0
-
-      -- where `xmlns=""` is written, no default of the set is
-      no_default : undeclares rows set rule x ≡ true → has_default rows set (Some x) ≡ false
-      no_default e =
-          let a = renders rows set rule [] x in
-          let b = has_default rows set (Some x) in
-          let c = has_default rows set (nearest rows set rule [] x) in
-          some_text b (and_parts a (not b) (and_parts (a && not b) c e).0).1
-
       none_declared : (n : List ℕ) (ys : List ℕ) → Each (λ z. is_written rows set rule x z ≡ true → n ≢ declaration_name (local z)) ys
           → NoneNamed n (flat_map (declared rows set rule x) ys)
       none_declared n [] h = tt
@@ -395,8 +374,8 @@ module _ (rows : List RowOf) (w : IsWellShaped rows) (written : AreWrittenSo row
           (each_told (λ z. is_default rows set z ≡ false) (λ z. is_written rows set rule x z ≡ true → codes "xmlns" ≢ declaration_name (local z)) (namespace_rows rows x)
           (λ z no is same.
           let default : bytes_eq (local z) [] ≡ true = (bytes_eq-Decides (local z) []).1 (sym (same_declaration [] (local z) same)) in
-          false≢true (sym no ∙ and_from (set z) (bytes_eq (local z) []) (written_member z is) default))
-          (any_false (is_default rows set) (namespace_rows rows x) (no_default e)))
+          false≢true (sym no ∙ and_from (set z) (bytes_eq (local z) []) (written_parts rows set rule x z is).member default))
+          (any_false (is_default rows set) (namespace_rows rows x) (undeclared_parts rows set rule x e).no_default))
 
       declarations_distinct : AreDistinct (declarations rows set rule x)
       declarations_distinct = by (undeclares rows set rule x) refl
