@@ -1,4 +1,4 @@
--- What characters spell is tidy.
+-- From the grammar back: each tree that characters spell meets the conditions under which it can be listed.
 use Rattle.std.proofs.Common.{◌≡◌, ℕ, ◌+◌, Bool, true, false, cond, not, ◌&&◌, ◌||◌, eqb, List, [], ◌∷◌, ◌++◌, map, Some, None, refl, sym, ap, ap₂, subst, ◌∙◌, append-nil}
 use Rattle.std.specs.Prelude.{encode_utf8, codes, if◌then◌else◌}
 use Rattle.std.specs.Char.{len_utf8}
@@ -254,7 +254,7 @@ document_tidy s t clean (document declaration before inside after name prolog k 
     behind_misc before prolog (followed_by k epilog) (passes_first is_no_return before (inside ++ after) one) m
     (element_tidy inside k epilog (passes_first is_no_return inside after two) e end.0 end.1)
 
--- no CR is left in the characters of a document
+-- line ends are line feeds once a document is read
 no_returns : (b : Bool) (at : ℕ) (cs : List ℕ) → Passes is_no_return (placed b at cs)
 no_returns b at [] = tt
 no_returns b at (c ∷ cs) = by (eqb c 13) (eqb c 10 && b) refl (λ b' at'. no_returns b' at' cs)

@@ -1,4 +1,4 @@
--- Characters wherever they stand: what is said of their codes alone.
+-- Properties of characters that look at codes and not at offsets.
 use Rattle.std.proofs.Common.{◌≡◌, ℕ, ◌+◌, Bool, true, false, cond, ◌&&◌, ◌||◌, ⊎_elim, not, eqb, leb, ltb, List, [], ◌∷◌, ◌++◌, map, refl, sym, ap, ◌∙◌, arith, le_trans}
 use Rattle.std.specs.Prelude.{encode_utf8_all}
 use Rattle.std.specs.Char.{len_utf8}
@@ -13,7 +13,7 @@ use Rattle.xml_syntax.proofs.Runs.{or_true}
 use Rattle.xml_syntax.proofs.NameLaws.{space_no_name, start_goes_on}
 use Rattle.c14n_listing.specs.Tidy.{is_no_return}
 
--- ---- characters one behind the other from an offset, none of which is a line end to be normalized
+-- ---- characters in a row from an offset on, without CR
 
 abbrev pub run : ℕ → List ℕ → List Placed
 run at [] = []
@@ -29,7 +29,7 @@ run_append at (c ∷ a) b =
     let e : at + len_utf8 c + size a ≡ at + (len_utf8 c + size a) = omega arith in
     ap (λ (u : List Placed). mark c at ∷ u) (run_append (at + len_utf8 c) a b ∙ ap (λ (n : ℕ). run (at + len_utf8 c) a ++ run n b) e)
 
--- a Char, and no CR
+-- each is a Char and not CR
 abbrev pub Clean : List ℕ → Type 0
 Clean [] = Unit {0}
 Clean (c ∷ cs) = (is_char c ≡ true) × (eqb c 13 ≡ false) × Clean cs
@@ -38,7 +38,7 @@ pub clean_append : (a b : List ℕ) → Clean a → Clean b → Clean (a ++ b)
 clean_append [] b p q = q
 clean_append (c ∷ a) b p q = (p.0, p.1, clean_append a b p.2 q)
 
--- the same as a test, for characters that are written out
+-- the test for it
 abbrev pub all_clean : List ℕ → Bool
 all_clean [] = true
 all_clean (c ∷ cs) = is_char c && (not (eqb c 13) && all_clean cs)
@@ -64,7 +64,7 @@ placed_clean (c ∷ cs) at p = first_clean c at cs p.1 ∙ ap (λ (u : List Plac
 pub characters_clean : (cs : List ℕ) (at : ℕ) → Clean cs → characters at cs ≡ run at cs
 characters_clean cs at p = placed_clean cs at p
 
--- ---- classes of characters
+-- ---- ranges of characters that lie in others
 
 abbrev Covers : Range → Range → Bool
 Covers r s = leb s.from r.from && leb r.until s.until
@@ -151,7 +151,7 @@ pub scalars_clean : (cs : List ℕ) → Clean cs → scalars cs ≡ true
 scalars_clean [] p = refl
 scalars_clean (c ∷ cs) p = and_from (scalar c) (scalars cs) (char_scalar c p.0) (scalars_clean cs p.2)
 
--- ---- what is said of the codes alone
+-- ---- at one offset and at another
 
 abbrev pub zeros : List ℕ → List Placed
 zeros cs = map (λ (c : ℕ). mark c 0) cs

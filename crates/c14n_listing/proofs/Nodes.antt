@@ -1,4 +1,4 @@
--- What each node of a tidy tree spells.
+-- The listing of each kind of node, and what the grammar takes it for.
 use Rattle.std.proofs.Common.{◌≡◌, ℕ, ◌+◌, false, List, [], ◌∷◌, ◌++◌, refl, sym, subst, ◌∙◌, append-nil, append_assoc}
 use Rattle.std.specs.Prelude.{encode_utf8_all, codes}
 use Rattle.std.specs.List.{flat_map}
@@ -18,13 +18,13 @@ use Rattle.c14n_listing.proofs.Letters.{clean_of, clean_by, utf8_zeros, utf8_run
 use Rattle.c14n_listing.proofs.Pieces.{Piece, join, told, nothing_piece, literal, name_piece, right4, right5, regrouped}
 use Rattle.c14n_listing.proofs.Texts.{IsValueBefore, value_piece}
 
--- one character that is written out
+-- a single character of ASCII
 one : (c : ℕ) (P : List Placed → Type 0) → ((at : ℕ) → P (mark c at ∷ [])) → (xs : List Placed) → IsLiteral (c ∷ []) xs → P xs
 one c P p [] h = absurd h
 one c P p (x ∷ []) h = subst (λ (d : ℕ). P (mark d x.at ∷ [])) (sym h.0) (p x.at)
 one c P p (x ∷ (y ∷ xs)) h = absurd h.1
 
--- two of them
+-- and a pair
 two : (c d : ℕ) (P : List Placed → Type 0) → ((at to : ℕ) → P (mark c at ∷ (mark d to ∷ []))) → (xs : List Placed) → IsLiteral (c ∷ (d ∷ [])) xs → P xs
 two c d P p [] h = absurd h
 two c d P p (x ∷ xs) h =
