@@ -250,6 +250,31 @@ element_row_named rows front behind own t n p last until e long is h =
       attribute = λ k. absurd (let no : kinds.Element ≡ kinds.Attribute = ap (λ (x : RowOf). x.kind) (sym at) ∙ k in cc);
     }
 
+-- the rows of an element and what stands behind them, cut at each place where a walk goes on
+record Places (rows front behind fields below others : List RowOf) (r : RowOf) (n : ℕ) : Type 0 where
+  row : rows ≡ front ++ (r ∷ (fields ++ (below ++ (others ++ behind))))
+  at_fields : rows ≡ (front ++ r ∷ []) ++ (fields ++ (below ++ (others ++ behind)))
+  at_below : rows ≡ ((front ++ r ∷ []) ++ fields) ++ (below ++ (others ++ behind))
+  at_others : rows ≡ (((front ++ r ∷ []) ++ fields) ++ below) ++ (others ++ behind)
+  to_fields : length (front ++ r ∷ []) ≡ n + 1
+  to_below : length ((front ++ r ∷ []) ++ fields) ≡ n + 1 + length fields
+  to_others : length (((front ++ r ∷ []) ++ fields) ++ below) ≡ n + 1 + length fields + length below
+
+places : (rows front behind fields below others : List RowOf) (r : RowOf) (n : ℕ) → rows ≡ front ++ ((r ∷ (fields ++ (below ++ others))) ++ behind) → length front ≡ n
+    → Places rows front behind fields below others r n
+places rows front behind fields below others r n e long =
+    let one : length (front ++ r ∷ []) ≡ n + 1 = one_more front r n long in
+    let two : length ((front ++ r ∷ []) ++ fields) ≡ n + 1 + length fields = omega (arith, length-append (front ++ r ∷ []) fields, one) in
+    record {
+      row = e ∙ simp append_assoc refl;
+      at_fields = e ∙ simp append_assoc refl;
+      at_below = e ∙ simp append_assoc refl;
+      at_others = e ∙ simp append_assoc refl;
+      to_fields = one;
+      to_below = two;
+      to_others = omega (arith, length-append ((front ++ r ∷ []) ++ fields) below, two);
+    }
+
 rows_named : (t : Resolved) (rows front behind : List RowOf) (n p : ℕ) (bs : List Binding) → NamedIn bs t → begins_namespace behind ≡ false
     → rows ≡ front ++ (rows_from n p bs t ++ behind) → length front ≡ n → AllNamed rows n (n + length (rows_from n p bs t))
 unfolding rows_from
@@ -279,24 +304,18 @@ rows_named (element_in tag inner until k) rows front behind n p bs h last e long
     let below = rows_from q n own inner in
     let others = rows_from (q + length below) p bs k in
     let r = element_row p (n + length fields + length below) tag.name tag.from tag.body_from until tag.is_empty in
-    let e0 : rows ≡ front ++ (r ∷ (fields ++ (below ++ (others ++ behind)))) = e ∙ simp append_assoc refl in
-    let e1 : rows ≡ (front ++ r ∷ []) ++ (fields ++ (below ++ (others ++ behind))) = e ∙ simp append_assoc refl in
-    let e2 : rows ≡ ((front ++ r ∷ []) ++ fields) ++ (below ++ (others ++ behind)) = e ∙ simp append_assoc refl in
-    let e3 : rows ≡ (((front ++ r ∷ []) ++ fields) ++ below) ++ (others ++ behind) = e ∙ simp append_assoc refl in
-    let l1 : length (front ++ r ∷ []) ≡ n + 1 = one_more front r n long in
-    let l2 : length ((front ++ r ∷ []) ++ fields) ≡ q = omega (arith, length-append (front ++ r ∷ []) fields, l1) in
-    let l3 : length (((front ++ r ∷ []) ++ fields) ++ below) ≡ q + length below = omega (arith, length-append ((front ++ r ∷ []) ++ fields) below, l2) in
+    let c = places rows front behind fields below others r n e long in
     let last2 : begins_namespace (others ++ behind) ≡ false = node_first k (q + length below) p bs behind last in
     let last3 : begins_namespace (below ++ (others ++ behind)) ≡ false = node_first inner q n own (others ++ behind) last2 in
-    let is = own_is rows front r n own tag.attributes (below ++ (others ++ behind)) e0 long last3 in
+    let is = own_is rows front r n own tag.attributes (below ++ (others ++ behind)) c.row long last3 in
     subst (AllNamed rows n) (omega (arith, length-append fields (below ++ others), length-append below others))
     (one_named rows n (q + length below + length others)
-    (element_row_named rows front (fields ++ (below ++ (others ++ behind))) own tag n p (n + length fields + length below) until e0 long is h.0)
+    (element_row_named rows front (fields ++ (below ++ (others ++ behind))) own tag n p (n + length fields + length below) until c.row long is h.0)
     (both_named rows (n + 1) q (q + length below + length others)
-    (λ i from to. field_row_named rows own n i is (each_at (FieldNamed (bound_by own) n) fields rows (front ++ r ∷ []) (below ++ (others ++ behind)) (n + 1) i (fields_named (bound_by own) n own tag.attributes h.0.attributes) e1 l1 from to))
+    (λ i from to. field_row_named rows own n i is (each_at (FieldNamed (bound_by own) n) fields rows (front ++ r ∷ []) (below ++ (others ++ behind)) (n + 1) i (fields_named (bound_by own) n own tag.attributes h.0.attributes) c.at_fields c.to_fields from to))
     (both_named rows q (q + length below) (q + length below + length others)
-    (rows_named inner rows ((front ++ r ∷ []) ++ fields) (others ++ behind) q n own h.1 last2 e2 l2)
-    (rows_named k rows (((front ++ r ∷ []) ++ fields) ++ below) behind (q + length below) p bs h.2 last e3 l3))))
+    (rows_named inner rows ((front ++ r ∷ []) ++ fields) (others ++ behind) q n own h.1 last2 c.at_below c.to_below)
+    (rows_named k rows (((front ++ r ∷ []) ++ fields) ++ below) behind (q + length below) p bs h.2 last c.at_others c.to_others))))
 
 all_named : (t : Resolved) → NamedIn first_bindings t → AllNamed (rows_of t) 1 (length (rows_of t))
 unfolding rows_of
