@@ -18,7 +18,7 @@ use Rattle.dsig_fields.specs.Names.{local_name, namespace_of}
 use Rattle.dsig_fields.specs.Reading.{◌>>=◌, at_end, behind_all, children, is_element_at, is_named, is_passed, none_left, optional, or_none, or_refusal, passed, passes_over, required, taken}
 use Rattle.dsig_fields.specs.Simple.{simple_octets}
 use Rattle.dsig_fields.specs.declared.fields.Fields.{Fields}
-use Rattle.dsig_fields.specs.declared.fields.InfoFields.{InfoFields}
+use Rattle.dsig_fields.specs.declared.fields.Info.{Info}
 use Rattle.dsig_fields.specs.declared.names.ElementName.{ElementName}
 use Rattle.dsig_fields.specs.declared.names.ElementName.TheVariants as names
 use Rattle.dsig_fields.specs.declared.refusal.FieldRefusal.{FieldRefusal}
@@ -252,22 +252,22 @@ module _ (rows : List RowOf) where
           ∙ and_false (is_element_at rows y && bytes_eq (row_at rows y).uri (namespace_of names.KeyInfo))
 
   -- ---- the fields of an element
-  abbrev info_of : Fields → InfoFields
+  abbrev info_of : Fields → Info
   info_of fields = record { canon = fields.canon; prefixes = fields.prefixes; mac = fields.mac; bits = fields.bits; references = fields.references }
 
-  abbrev behind_key : (x signed_info value_row : ℕ) → InfoFields → List ℕ → Option (List ℕ) → List ℕ → Result Fields FieldRefusal
+  abbrev behind_key : (x signed_info value_row : ℕ) → Info → List ℕ → Option (List ℕ) → List ℕ → Result Fields FieldRefusal
   behind_key x signed_info value_row info value key_name xs = do
     left ← behind_all rows names.Object xs
     nothing ← at_end rows left
     Ok (joined_fields x signed_info value_row info value key_name)
 
-  abbrev behind_value : (x signed_info value_row : ℕ) → InfoFields → List ℕ → List ℕ → Result Fields FieldRefusal
+  abbrev behind_value : (x signed_info value_row : ℕ) → Info → List ℕ → List ℕ → Result Fields FieldRefusal
   behind_value x signed_info value_row info value xs = do
     third ← optional rows names.KeyInfo xs
     key_name ← key_info_if rows third.0
     behind_key x signed_info value_row info value key_name third.1
 
-  abbrev behind_info : (x signed_info : ℕ) → InfoFields → List ℕ → Result Fields FieldRefusal
+  abbrev behind_info : (x signed_info : ℕ) → Info → List ℕ → Result Fields FieldRefusal
   behind_info x signed_info info xs = do
     second ← required rows names.SignatureValue xs
     value ← simple_octets rows second.0

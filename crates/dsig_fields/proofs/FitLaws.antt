@@ -12,9 +12,9 @@ use Rattle.xml_doc.specs.Rows.{RowOf}
 use Rattle.xml_doc.specs.Shape.{IsWellShaped}
 use Rattle.dsig_fields.specs.Fields.{algorithm, mac_refusal, filter_kind_in, digest_method, key_info_if, inner_prefixes, canonicalization_method, output_length, signature_method, canonicalizing_step, filter_at, other_step, step_by, transform, transforms, transforms_if, reference, info_fields, fields_of}
 use Rattle.dsig_fields.specs.Fields.{bare_step, xpath_step, filters_step}
-use Rattle.dsig_fields.specs.Fits.{IsElement, PrefixesFit, FilterFits, StepFits, ReferenceFits, FieldsFit}
+use Rattle.dsig_fields.specs.Fits.{IsElement, PrefixesFit, FilterFits, StepFits, ReferenceFits, InfoFits, FieldsFit}
 use Rattle.dsig_fields.specs.Lengths.{length_in, kept_if, decimal_in, trimmed, may_keep}
-use Rattle.dsig_fields.specs.Reading.{◌>>=◌, or_refusal, attribute, passed, taken, required, optional, optional_if, behind_all, many, one_or_more, at_end, children, is_named, is_element_at, is_passed}
+use Rattle.dsig_fields.specs.Reading.{Gives, ◌>>=◌, or_refusal, attribute, passed, taken, required, optional, optional_if, behind_all, many, one_or_more, at_end, children, is_named, is_element_at, is_passed}
 use Rattle.dsig_fields.specs.Simple.{simple_text, simple_octets}
 use Rattle.dsig_fields.specs.declared.names.ElementName.{ElementName}
 use Rattle.dsig_fields.specs.declared.names.ElementName.TheVariants as names
@@ -25,7 +25,7 @@ use Rattle.dsig_fields.specs.declared.fields.Filter.{Filter}
 use Rattle.dsig_fields.specs.declared.fields.Step.{Step}
 use Rattle.dsig_fields.specs.declared.fields.Step.TheVariants as step
 use Rattle.dsig_fields.specs.declared.fields.Reference.{Reference}
-use Rattle.dsig_fields.specs.declared.fields.InfoFields.{InfoFields}
+use Rattle.dsig_fields.specs.declared.fields.Info.{Info}
 use Rattle.dsig_fields.specs.declared.fields.Fields.{Fields}
 use Rattle.dsig_fields.specs.declared.fields.Canonicalization.{Canonicalization}
 use Rattle.dsig_fields.specs.declared.fields.Authentication.{Authentication}
@@ -69,7 +69,7 @@ many_fits {A} Fits too_many rows name read each room (y ∷ rest) = go (is_named
     go false none false true same less is_n is_none is_e is_p = rw (is_n, is_e, is_p) same
     go false none false false same less is_n is_none is_e is_p = rw (is_n, is_e, is_p) tt
 
-one_or_more_fits : {A : Type 0} (Fits : A → Type 0) (too_many : ℕ → FieldRefusal) (rows : List RowOf) (name : ElementName) (read : ℕ → Result A FieldRefusal)
+pub one_or_more_fits : {A : Type 0} (Fits : A → Type 0) (too_many : ℕ → FieldRefusal) (rows : List RowOf) (name : ElementName) (read : ℕ → Result A FieldRefusal)
     → ((y : ℕ) → IsElement rows y → IfOk (read y) Fits)
     → (limit : ℕ) → 0 < limit → (xs : List ℕ) → IfOk (one_or_more too_many rows name read limit xs) (λ p. (length p.0 ≤ limit) × All Fits p.0)
 unfolding one_or_more
@@ -186,7 +186,7 @@ transforms_if_fit rows None = (omega arith, λ k d h. absurd (omega (arith, h)))
 transforms_if_fit rows (Some x) = transforms_fit rows x
 
 -- ---- References, SignedInfo and Signature
-reference_fits : (rows : List RowOf) (y : ℕ) → IsElement rows y → IfOk (reference rows y) (ReferenceFits rows)
+pub reference_fits : (rows : List RowOf) (y : ℕ) → IsElement rows y → IfOk (reference rows y) (ReferenceFits rows)
 unfolding reference
 reference_fits rows y element =
     let Q = ReferenceFits rows in
@@ -195,12 +195,6 @@ reference_fits rows y element =
     in_any_case Q (required rows names.DigestMethod before.1) _ (λ method. in_any_case Q (digest_method rows method.0) _ (λ digest.
     then_fits (λ (p : ℕ × List ℕ). IsElement rows p.0) Q (required rows DigestValue method.1) _ (required_fits rows DigestValue method.1) (λ value digest_row.
     in_any_case Q (simple_octets rows value.0) _ (λ expected. in_any_case Q (at_end rows value.1) _ (λ nothing. record { row = element; digest_row = digest_row; few = fit.0; steps = fit.1 }))))))))
-
-record InfoFits (rows : List RowOf) (info : InfoFields) : Type 0 where
-  prefixes : PrefixesFit info.canon info.prefixes
-  bits : (n : ℕ) → info.bits ≡ Some n → may_keep info.mac n ≡ true
-  few : length info.references ≤ 256
-  references : All (ReferenceFits rows) info.references
 
 info_fits : (rows : List RowOf) (x : ℕ) → IfOk (info_fields rows x) (InfoFits rows)
 unfolding info_fields
@@ -229,6 +223,10 @@ fields_fit_if rows x =
     in_any_case Q (simple_octets rows second.0) _ (λ value. in_any_case Q (optional rows names.KeyInfo second.1) _ (λ third. in_any_case Q (key_info_if rows third.0) _ (λ key_name.
     in_any_case Q (behind_all rows names.Object third.1) _ (λ left. in_any_case Q (at_end rows left) _ (λ nothing.
     record { signed_info = signed_info; value_row = value_row; info = fit }))))))))
+
+pub read_info_fits : (rows : List RowOf) (x : ℕ) (answer : Result Info FieldRefusal) → Gives (λ (i : Info). i) answer (info_fields rows x) → IfOk answer (InfoFits rows)
+read_info_fits rows x (Ok read) is = rw is at (info_fits rows x)
+read_info_fits rows x (Err refusal) is = tt
 
 pub fields_fit : (rows : List RowOf) (x : ℕ) (read : Fields) → IsWellShaped rows → fields_of rows x ≡ Ok read → FieldsFit rows read
 fields_fit rows x read shape is =

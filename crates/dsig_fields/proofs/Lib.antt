@@ -2,11 +2,14 @@ pub mod ContentLaws
 pub mod FitLaws
 pub mod FoundLaws
 pub mod LengthLaws
+pub mod ManifestLaws
 pub mod ManyLaws
 pub mod NameLaws
 pub mod NextLaws
 pub mod Refusals
 pub mod RiseLaws
+pub mod SameChildren
+pub mod SameLaws
 pub mod SignatureLaws
 pub mod SimpleLaws
 pub mod Steps

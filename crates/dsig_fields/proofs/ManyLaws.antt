@@ -17,15 +17,15 @@ front_more {A} front first (Err refusal) = refl
 
 module _ {A : Type 0} (too_many : ℕ → FieldRefusal) (rows : List RowOf) (name : ElementName) (read : ℕ → Result A FieldRefusal) where
   -- one that was read, before the others
-  abbrev before_others : ℕ → List ℕ → A → Result (List A × List ℕ) FieldRefusal
+  abbrev pub before_others : ℕ → List ℕ → A → Result (List A × List ℕ) FieldRefusal
   before_others room left first = ◌>>=◌ {B = List A × List ℕ} (many too_many rows name read room left) (λ others. Ok (first ∷ others.0, others.1))
 
   -- what comes behind the first try to read one
-  abbrev after : ℕ → Option ℕ × List ℕ → Result (List A × List ℕ) FieldRefusal
+  abbrev pub after : ℕ → Option ℕ × List ℕ → Result (List A × List ℕ) FieldRefusal
   after room (Some y, left) = if room == 0 then Err (too_many y) else (read y >>= before_others (room - 1) left)
   after room (None, left) = Ok ([], left)
 
-  many_is : (room : ℕ) (xs : List ℕ) → many too_many rows name read room xs ≡ (optional rows name xs >>= after room)
+  pub many_is : (room : ℕ) (xs : List ℕ) → many too_many rows name read room xs ≡ (optional rows name xs >>= after room)
   unfolding many optional passed
   many_is room [] = refl
   many_is room (y ∷ rest) = by_cases rows name y (λ e n. rw (e, n, e, n) refl) (λ e n. rw (e, n, e, n) refl) (λ e p. rw (e, p) (many_is room rest)) (λ e p. rw (e, p) refl)

@@ -23,7 +23,7 @@ use Rattle.dsig_fields.specs.declared.fields.Filter.{Filter}
 use Rattle.dsig_fields.specs.declared.fields.Step.{Step}
 use Rattle.dsig_fields.specs.declared.fields.Step.TheVariants as step
 use Rattle.dsig_fields.specs.declared.fields.Reference.{Reference}
-use Rattle.dsig_fields.specs.declared.fields.InfoFields.{InfoFields}
+use Rattle.dsig_fields.specs.declared.fields.Info.{Info}
 use Rattle.dsig_fields.specs.declared.fields.Fields.{Fields}
 
 abbrev pub algorithm : List RowOf → ℕ → Result (List ℕ) FieldRefusal
@@ -192,7 +192,7 @@ reference rows x = do
   })
 
 -- SignedInfo: section 4.4
-unfoldable pub info_fields : List RowOf → ℕ → Result InfoFields FieldRefusal
+unfoldable pub info_fields : List RowOf → ℕ → Result Info FieldRefusal
 info_fields rows x = do
   first ← required rows element.CanonicalizationMethod (children rows x)
   canonicalization ← canonicalization_method rows first.0
@@ -233,7 +233,7 @@ abbrev pub key_info_if : List RowOf → Option ℕ → Result (Option (List ℕ)
 key_info_if rows None = Ok None
 key_info_if rows (Some x) = key_info rows x
 
-abbrev pub joined_fields : (signature signed_info value_row : ℕ) → InfoFields → (value : List ℕ) → Option (List ℕ) → Fields
+abbrev pub joined_fields : (signature signed_info value_row : ℕ) → Info → (value : List ℕ) → Option (List ℕ) → Fields
 joined_fields signature signed_info value_row info value key_name =
     record {
       signature = signature;

@@ -11,6 +11,7 @@ use Rattle.dsig_fields.specs.declared.fields.Filter.{Filter}
 use Rattle.dsig_fields.specs.declared.fields.Step.{Step}
 use Rattle.dsig_fields.specs.declared.fields.Step.TheVariants as step
 use Rattle.dsig_fields.specs.declared.fields.Reference.{Reference}
+use Rattle.dsig_fields.specs.declared.fields.Info.{Info}
 use Rattle.dsig_fields.specs.declared.fields.Fields.{Fields}
 
 -- row x is an element
@@ -37,6 +38,12 @@ pub record ReferenceFits (rows : List RowOf) (reference : Reference) : Type 0 wh
   pub digest_row : IsElement rows reference.digest_row
   pub few : length reference.steps ≤ 16
   pub steps : All (StepFits rows) reference.steps
+
+pub record InfoFits (rows : List RowOf) (info : Info) : Type 0 where
+  pub prefixes : PrefixesFit info.canon info.prefixes
+  pub bits : (n : ℕ) → info.bits ≡ Some n → may_keep info.mac n ≡ true
+  pub few : length info.references ≤ 256
+  pub references : All (ReferenceFits rows) info.references
 
 -- numbers that rise, from this one on
 abbrev pub Rises : ℕ → List ℕ → Type 0

@@ -10,4 +10,5 @@ pub mod Keys
 pub mod Holds
 pub mod Fits
 pub mod Content
+pub mod Manifests
 pub mod Code

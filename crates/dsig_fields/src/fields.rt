@@ -84,12 +84,17 @@ pub(crate) struct Authentication {
 
 /// What a SignedInfo says (XML Signature 1.1 §4.4).
 #[derive(Drop)]
-pub(crate) struct InfoFields {
-    pub(crate) canon: CanonMethod,
-    pub(crate) prefixes: PrefixList,
-    pub(crate) mac: MacMethod,
-    pub(crate) bits: Option<u32>,
-    pub(crate) references: ReferenceList,
+pub struct Info {
+    /// The canonicalization method (§4.4.1).
+    pub canon: CanonMethod,
+    /// Its PrefixList, where it is exclusive; empty for another.
+    pub prefixes: PrefixList,
+    /// The method of message authentication (§4.4.2).
+    pub mac: MacMethod,
+    /// The HMACOutputLength in bits, where one is given: whole octets, and no more than the HMAC has.
+    pub bits: Option<u32>,
+    /// The References (§4.4.3).
+    pub references: ReferenceList,
 }
 
 /// What a Signature says (XML Signature 1.1 §4.1).

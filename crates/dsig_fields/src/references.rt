@@ -7,7 +7,7 @@ ghost use Rattle.dsig_fields.specs.Reading.{Gives, attribute as attribute_of, or
 
 use crate::attributes::attribute;
 use crate::children::Children;
-use crate::fields::{InfoFields, Reference};
+use crate::fields::{Info, Reference};
 use crate::methods::{canonicalization_method, digest_method, signature_method};
 use crate::names::ElementName;
 use crate::refusal::FieldRefusal;
@@ -92,7 +92,7 @@ impl Repeated for Reference {
 
 /// SignedInfo (XML Signature 1.1 §4.4).
 #[tactic(auto, unfolding(crate::specs::Fields::info_fields))]
-pub(crate) fn info_fields(alloc: Global, doc: &Doc<'_>, x: u32) -> Result<InfoFields, FieldRefusal>
+pub(crate) fn info_fields(alloc: Global, doc: &Doc<'_>, x: u32) -> Result<Info, FieldRefusal>
     requires { x < length doc.now }
     ensures { Gives (λ i. i) result (spec.info_fields doc.now x) }
 {
@@ -103,7 +103,7 @@ pub(crate) fn info_fields(alloc: Global, doc: &Doc<'_>, x: u32) -> Result<InfoFi
     let authentication = signature_method(alloc, doc, mac_row)?;
     let references = one_or_more(alloc, doc, &mut children)?;
     children.at_end(doc)?;
-    Ok(InfoFields {
+    Ok(Info {
         canon: canonicalization.method,
         prefixes: canonicalization.prefixes,
         mac: authentication.mac,

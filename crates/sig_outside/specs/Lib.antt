@@ -6,4 +6,6 @@ pub mod Writes
 pub mod MemStates
 pub mod Pairs
 pub mod MemViews
+pub mod Bounds
+pub mod BoundViews
 pub mod Code

@@ -1,4 +1,5 @@
 pub mod Given
 pub mod Handing
 pub mod Names
+pub mod Stood
 pub mod Code

@@ -15,16 +15,16 @@ use Rattle.job_words.specs.declared.job.Job.{Job}
 use Rattle.xmldsig.specs.Ending.{GrewTowards, everywhere}
 use Rattle.xmldsig.specs.Code.Stops.{Answers, AsksAll, StopCounts}
 use Rattle.xmldsig.specs.Code.Ending.{AsksBy, EndsWords, FolderCounts, KeepersHave, OctetsEnd, RefusalEnds, ReportEnds, Settled, Settles, SettlesWords, ViewCause}
-use Rattle.xmldsig.specs.Outcome.{Answer, gives_octets, is_built, is_validation, names_asked, pairs_by, pairs_for, reported, run_outcome, views_of, written}
+use Rattle.xmldsig.specs.Outcome.{Answer, gives_octets, is_validation, names_asked, pairs_by, pairs_for, reported, run_outcome, views_of, written}
 use Rattle.xmldsig.specs.Outcome.{OfReport, OfOctets}
 use Rattle.xmldsig.specs.Outside.{Asking}
-use Rattle.xmldsig.specs.Texts.{report_text}
+use Rattle.xmldsig.specs.Texts.{validated_text}
 use Rattle.xmldsig.specs.declared.ending.Refusal.{Refusal}
-use Rattle.xmldsig.specs.declared.ending.Refusal.TheVariants as refusal
 use Rattle.xmldsig.specs.declared.stop.Stop.{Stop}
 use Rattle.xmldsig.specs.declared.stop.Stop.TheVariants as stop
 use Rattle.xmldsig.specs.declared.ending.Ending.{Ending}
 use Rattle.xmldsig.specs.declared.ending.Ending.TheVariants as ending
+use Rattle.xmldsig.specs.declared.ending.Validated.{Validated}
 
 -- ---- keepers
 
@@ -123,27 +123,17 @@ refusal_settled pairs faults named held (ending.Refused refusal line) old new ke
   cause = tt;
   over = λ files e. record { outcome = (outcome files e ∙ ap Err (sym d.0), d.1); asked = asked files e; have = have_nothing pairs keepers };
 }
-refusal_settled pairs faults named held (ending.Reported report text) old new keepers cause d calm outcome asked = absurd d
+refusal_settled pairs faults named held (ending.Reported told text) old new keepers cause d calm outcome asked = absurd d
 refusal_settled pairs faults named held (ending.Written octets) old new keepers cause d calm outcome asked = absurd d
-
--- a job that isn't built
-pub unbuilt_settled : {K : Type 0} (pairs : K → Option (List Pair)) (faults : K → ℕ) (named : Job) (held : Option Held) (x : Ending)
-    (old : Asking) (keepers : List K)
-    → RefusalEnds refusal.NotBuilt x → ((files : Held) → run_outcome named files ≡ Err refusal.NotBuilt) →
-    ((files : Held) → names_asked named files ≡ [])
-    → Settled pairs faults (Some named) held x old old keepers keepers
-unbuilt_settled pairs faults named held x old keepers d outcome names =
-    refusal_settled pairs faults named held x old old keepers refusal.NotBuilt d refl (λ files e. outcome files)
-    (λ files e. rw (names files) (sym (append-nil old.names)))
 
 -- a fault of the folder, or want of memory for what it gives
 pub fault_settled : {K : Type 0} (pairs : K → Option (List Pair)) (faults : K → ℕ) (named : Job) (held : Option Held) (old new : Asking)
     (keepers : List K)
-    → is_built named ≡ true → FolderCounts ending.ReadFault old.faults new.faults → ForSome held
+    → FolderCounts ending.ReadFault old.faults new.faults → ForSome held
     (λ files. AsksBy ending.ReadFault (names_asked named files) old.names new.names)
     → Settled pairs faults (Some named) held ending.ReadFault old new keepers keepers
-fault_settled pairs faults named held old new keepers built rose asked = record {
-  words = built;
+fault_settled pairs faults named held old new keepers rose asked = record {
+  words = tt;
   folder = rose;
   number = refl;
   counts = counts_same faults keepers;
@@ -180,54 +170,54 @@ octets_settled pairs faults named held old new keepers octets gives calm outcome
 }
 
 -- a report
-report_words : (named : Job) (views : Option (List ℕ)) (report : Report) (x : Ending) → is_validation named ≡ true → views_of named ≡ views
-    → ReportEnds views report x → EndsWords (Some named) x
-report_words named views report ending.Usage v same d = d
-report_words named views report ending.ReadFault v same d = absurd d
-report_words named views report ending.Memory v same d = tt
-report_words named views report (ending.ViewFault view keeper) v same d = (v, rw same d.0)
-report_words named views report (ending.Refused refusal line) v same d = tt
-report_words named views report (ending.Reported told text) v same d = v
-report_words named views report (ending.Written octets) v same d = absurd d
+report_words : (named : Job) (views : Option (List ℕ)) (found : Validated) (x : Ending) → is_validation named ≡ true → views_of named ≡ views
+    → ReportEnds views found x → EndsWords (Some named) x
+report_words named views found ending.Usage v same d = d
+report_words named views found ending.ReadFault v same d = absurd d
+report_words named views found ending.Memory v same d = tt
+report_words named views found (ending.ViewFault view keeper) v same d = (v, rw same d.0)
+report_words named views found (ending.Refused refusal line) v same d = tt
+report_words named views found (ending.Reported told text) v same d = v
+report_words named views found (ending.Written octets) v same d = absurd d
 
-report_counts : (views : Option (List ℕ)) (report : Report) (x : Ending) (before now : ℕ) → ReportEnds views report x → now ≡ before
+report_counts : (views : Option (List ℕ)) (found : Validated) (x : Ending) (before now : ℕ) → ReportEnds views found x → now ≡ before
     → FolderCounts x before now
-report_counts views report ending.Usage before now d is = is
-report_counts views report ending.ReadFault before now d is = absurd d
-report_counts views report ending.Memory before now d is = is
-report_counts views report (ending.ViewFault view keeper) before now d is = is
-report_counts views report (ending.Refused refusal line) before now d is = is
-report_counts views report (ending.Reported told text) before now d is = is
-report_counts views report (ending.Written octets) before now d is = is
+report_counts views found ending.Usage before now d is = is
+report_counts views found ending.ReadFault before now d is = absurd d
+report_counts views found ending.Memory before now d is = is
+report_counts views found (ending.ViewFault view keeper) before now d is = is
+report_counts views found (ending.Refused refusal line) before now d is = is
+report_counts views found (ending.Reported told text) before now d is = is
+report_counts views found (ending.Written octets) before now d is = is
 
-report_settles : (views : Option (List ℕ)) (outcome : Result Answer Refusal) (report : Report) (x : Ending) → ReportEnds views report x
-    → outcome ≡ Ok (OfReport report) → Settles views outcome x
-report_settles views outcome report ending.Usage d is = d
-report_settles views outcome report ending.ReadFault d is = tt
-report_settles views outcome report ending.Memory d is = tt
-report_settles views outcome report (ending.ViewFault view keeper) d is = rw is d
-report_settles views outcome report (ending.Refused refusal line) d is = absurd d
-report_settles views outcome report (ending.Reported told text) d is =
-    (is ∙ ap (λ r. Ok (OfReport r)) (sym d.0), d.1 ∙ ap report_text (sym d.0))
-report_settles views outcome report (ending.Written octets) d is = absurd d
+report_settles : (views : Option (List ℕ)) (outcome : Result Answer Refusal) (found : Validated) (x : Ending) → ReportEnds views found x
+    → outcome ≡ Ok (OfReport found) → Settles views outcome x
+report_settles views outcome found ending.Usage d is = d
+report_settles views outcome found ending.ReadFault d is = tt
+report_settles views outcome found ending.Memory d is = tt
+report_settles views outcome found (ending.ViewFault view keeper) d is = rw is d
+report_settles views outcome found (ending.Refused refusal line) d is = absurd d
+report_settles views outcome found (ending.Reported told text) d is =
+    (is ∙ ap (λ v. Ok (OfReport v)) (sym d.0), d.1 ∙ ap validated_text (sym d.0))
+report_settles views outcome found (ending.Written octets) d is = absurd d
 
 pub report_settled : {K : Type 0} (pairs : K → Option (List Pair)) (faults : K → ℕ) (named : Job) (views : Option (List ℕ))
-    (held : Option Held) (x : Ending) (old new : Asking) (keepers keepers' : List K) (report : Report)
-    → is_validation named ≡ true → views_of named ≡ views → ReportEnds views report x → KeepersHave
-    (pairs_for views report) x pairs keepers keepers'
+    (held : Option Held) (x : Ending) (old new : Asking) (keepers keepers' : List K) (found : Validated)
+    → is_validation named ≡ true → views_of named ≡ views → ReportEnds views found x → KeepersHave
+    (pairs_for views found.report) x pairs keepers keepers'
     → length keepers' ≡ length keepers → CountsStand faults keepers keepers' → ViewCause faults x keepers keepers'
-    → new.faults ≡ old.faults → ForSome held (λ files. run_outcome named files ≡ Ok (OfReport report)) → ForSome held
+    → new.faults ≡ old.faults → ForSome held (λ files. run_outcome named files ≡ Ok (OfReport found)) → ForSome held
     (λ files. new.names ≡ old.names ++ names_asked named files)
     → Settled pairs faults (Some named) held x old new keepers keepers'
-report_settled pairs faults named views held x old new keepers keepers' report is_job same d have number counts cause calm outcome asked =
+report_settled pairs faults named views held x old new keepers keepers' found is_job same d have number counts cause calm outcome asked =
     record {
-      words = report_words named views report x is_job same d;
-      folder = report_counts views report x old.faults new.faults d calm;
+      words = report_words named views found x is_job same d;
+      folder = report_counts views found x old.faults new.faults d calm;
       number = number;
       counts = counts;
       cause = cause;
       over = λ files e. record {
-        outcome = rw same (report_settles views (run_outcome named files) report x d (outcome files e));
+        outcome = rw same (report_settles views (run_outcome named files) found x d (outcome files e));
         asked = asks_by x (names_asked named files) old.names new.names (asked files e);
         have = rw (same, outcome files e) have;
       };
@@ -235,10 +225,10 @@ report_settled pairs faults named views held x old new keepers keepers' report i
 
 -- ---- from the steps of a job to its outcome
 
-pub reported_ok : (outcome : Result Report Refusal) (report : Report) → outcome ≡ Ok report → reported outcome ≡ Ok (OfReport report)
-reported_ok outcome report e = ap reported e
+pub reported_ok : (outcome : Result Validated Refusal) (found : Validated) → outcome ≡ Ok found → reported outcome ≡ Ok (OfReport found)
+reported_ok outcome found e = ap reported e
 
-pub reported_err : (outcome : Result Report Refusal) (cause : Refusal) → outcome ≡ Err cause → reported outcome ≡ Err cause
+pub reported_err : (outcome : Result Validated Refusal) (cause : Refusal) → outcome ≡ Err cause → reported outcome ≡ Err cause
 reported_err outcome cause e = ap reported e
 
 pub written_ok : (outcome : Result (List ℕ) Refusal) (octets : List ℕ) → outcome ≡ Ok octets → written outcome ≡ Ok (OfOctets octets)
@@ -250,19 +240,19 @@ written_err outcome cause e = ap written e
 -- what a command comes to that gives octets
 pub found_settled : {K : Type 0} (pairs : K → Option (List Pair)) (faults : K → ℕ) (named : Job) (held : Option Held)
     (outcome : Held → Result (List ℕ) Refusal) (found : Result (List ℕ) Stop) (x : Ending) (old new : Asking) (keepers : List K)
-    → gives_octets named ≡ true → is_built named ≡ true → ((files : Held) → run_outcome named files ≡ written (outcome files))
+    → gives_octets named ≡ true → ((files : Held) → run_outcome named files ≡ written (outcome files))
     → OctetsEnd found x → ForSome held (λ files. Answers found (outcome files))
     → ForSome held (λ files. AsksAll found (names_asked named files) old.names new.names) → StopCounts found old.faults new.faults
     → Settled pairs faults (Some named) held x old new keepers keepers
-found_settled pairs faults named held outcome (Ok octets) x old new keepers gives built is ends answers asks counts =
+found_settled pairs faults named held outcome (Ok octets) x old new keepers gives is ends answers asks counts =
     rw ends
     (octets_settled pairs faults named held old new keepers octets gives counts (λ files e. is files ∙ written_ok _ _ (answers files e)) asks)
-found_settled pairs faults named held outcome (Err (stop.Refused cause)) x old new keepers gives built is ends answers asks counts =
+found_settled pairs faults named held outcome (Err (stop.Refused cause)) x old new keepers gives is ends answers asks counts =
     refusal_settled pairs faults named held x old new keepers cause ends counts
     (λ files e. is files ∙ written_err _ _ (answers files e)) asks
-found_settled pairs faults named held outcome (Err stop.ReadFault) x old new keepers gives built is ends answers asks counts =
-    rw ends (fault_settled pairs faults named held old new keepers built counts asks)
-found_settled pairs faults named held outcome (Err stop.Memory) x old new keepers gives built is ends answers asks counts =
+found_settled pairs faults named held outcome (Err stop.ReadFault) x old new keepers gives is ends answers asks counts =
+    rw ends (fault_settled pairs faults named held old new keepers counts asks)
+found_settled pairs faults named held outcome (Err stop.Memory) x old new keepers gives is ends answers asks counts =
     rw ends (memory_settled pairs faults named held old new keepers counts asks)
 
 -- ---- words that name no job, and want of memory for them

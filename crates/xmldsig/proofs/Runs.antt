@@ -39,6 +39,13 @@ by_report C (Valid views) v i = v
 
 -- ---- the answer
 
+agrees_report : (views : Option (List ℕ)) (outcome : Result Answer Refusal) (report : Report) → outcome_status outcome ≡ report_status report
+    → Agrees views outcome (report_status report)
+agrees_report views outcome SignatureDiffers e = e
+agrees_report views outcome (ShortTruncation bits) e = e
+agrees_report views outcome (DigestsDiffer numbers) e = e
+agrees_report views outcome (Valid kept) e = e
+
 agrees_at : (views : Option (List ℕ)) (outcome : Result Answer Refusal) (x : Ending) → Settles views outcome x
     → Agrees views outcome (status_of x)
 agrees_at views outcome ending.Usage s = s
@@ -46,10 +53,7 @@ agrees_at views outcome ending.ReadFault s = tt
 agrees_at views outcome ending.Memory s = tt
 agrees_at views outcome (ending.ViewFault view keeper) s = s
 agrees_at views outcome (ending.Refused refusal told) s = ap outcome_status s.0
-agrees_at views outcome (ending.Reported SignatureDiffers text) s = ap outcome_status s.0
-agrees_at views outcome (ending.Reported (ShortTruncation bits) text) s = ap outcome_status s.0
-agrees_at views outcome (ending.Reported (DigestsDiffer numbers) text) s = ap outcome_status s.0
-agrees_at views outcome (ending.Reported (Valid kept) text) s = ap outcome_status s.0
+agrees_at views outcome (ending.Reported found text) s = agrees_report views outcome found.report (ap outcome_status s.0)
 agrees_at views outcome (ending.Written octets) s = ap outcome_status s
 
 usage_at : (named : Option Job) (x : Ending) → EndsWords named x → UsageBy named (status_of x)
@@ -58,14 +62,14 @@ usage_at None ending.ReadFault h = h
 usage_at None ending.Memory h = tt
 usage_at None (ending.ViewFault view keeper) h = absurd h
 usage_at None (ending.Refused refusal told) h = absurd h
-usage_at None (ending.Reported report text) h = absurd h
+usage_at None (ending.Reported found text) h = absurd h
 usage_at None (ending.Written octets) h = absurd h
 usage_at (Some job) ending.Usage h = h
 usage_at (Some job) ending.ReadFault h = h
 usage_at (Some job) ending.Memory h = tt
 usage_at (Some job) (ending.ViewFault view keeper) h = h
 usage_at (Some job) (ending.Refused refusal told) h = tt
-usage_at (Some job) (ending.Reported report text) h = by_report (UsageBy (Some job)) report h h
+usage_at (Some job) (ending.Reported found text) h = by_report (UsageBy (Some job)) found.report h h
 usage_at (Some job) (ending.Written octets) h = h
 
 usage_write : (named : Option Job) → UsageBy named status.WriteFault
@@ -80,7 +84,7 @@ folder_at ending.ReadFault before now h = h
 folder_at ending.Memory before now h = h
 folder_at (ending.ViewFault view keeper) before now h = h
 folder_at (ending.Refused refusal told) before now h = h
-folder_at (ending.Reported report text) before now h = by_report (λ s. FolderBy s before now) report h h
+folder_at (ending.Reported found text) before now h = by_report (λ s. FolderBy s before now) found.report h h
 folder_at (ending.Written octets) before now h = h
 
 folder_later : (x : Ending) (before now : ℕ) → FolderCounts x before now → before ≤ now
@@ -89,7 +93,7 @@ folder_later ending.ReadFault before now h = h.0
 folder_later ending.Memory before now h = omega arith
 folder_later (ending.ViewFault view keeper) before now h = omega arith
 folder_later (ending.Refused refusal told) before now h = omega arith
-folder_later (ending.Reported report text) before now h = omega arith
+folder_later (ending.Reported found text) before now h = omega arith
 folder_later (ending.Written octets) before now h = omega arith
 
 asks_at : (x : Ending) (names old new : List (List ℕ)) → AsksBy x names old new → AskedBy (status_of x) names old new
@@ -98,7 +102,7 @@ asks_at ending.ReadFault names old new h = h
 asks_at ending.Memory names old new h = h
 asks_at (ending.ViewFault view keeper) names old new h = h
 asks_at (ending.Refused refusal told) names old new h = h
-asks_at (ending.Reported report text) names old new h = by_report (λ s. AskedBy s names old new) report h h
+asks_at (ending.Reported found text) names old new h = by_report (λ s. AskedBy s names old new) found.report h h
 asks_at (ending.Written octets) names old new h = h
 
 asks_prefix : (x : Ending) (names old new : List (List ℕ)) → AsksBy x names old new → (n : ℕ) × (new ≡ old ++ take n names)
@@ -107,7 +111,7 @@ asks_prefix ending.ReadFault names old new h = h
 asks_prefix ending.Memory names old new h = h
 asks_prefix (ending.ViewFault view keeper) names old new h = some_names names old new h
 asks_prefix (ending.Refused refusal told) names old new h = some_names names old new h
-asks_prefix (ending.Reported report text) names old new h = some_names names old new h
+asks_prefix (ending.Reported found text) names old new h = some_names names old new h
 asks_prefix (ending.Written octets) names old new h = some_names names old new h
 
 -- ---- out and err
@@ -119,7 +123,7 @@ calm_at ending.ReadFault out out' err err' a b = (a, b)
 calm_at ending.Memory out out' err err' a b = (a, b)
 calm_at (ending.ViewFault view keeper) out out' err err' a b = (a, b)
 calm_at (ending.Refused refusal told) out out' err err' a b = (a, b)
-calm_at (ending.Reported report text) out out' err err' a b = by_report (λ s. SinksBy s out out' err err') report (a, b) (a, b)
+calm_at (ending.Reported found text) out out' err err' a b = by_report (λ s. SinksBy s out out' err err') found.report (a, b) (a, b)
 calm_at (ending.Written octets) out out' err err' a b = (a, b)
 
 sinks_by : (x : Ending) (text line : List ℕ) (result : Status) (out out' err err' : Stream)
@@ -136,7 +140,7 @@ sinks_by x text line result out out' err err' (inr (inr s)) =
 
 -- the text and the line that belong to an ending: those of the outcome, where it is told
 abbrev Tells : (text line : List ℕ) → Ending → Type 0
-Tells text line (ending.Reported report told) = (told ≡ text) × (line ≡ [])
+Tells text line (ending.Reported found told) = (told ≡ text) × (line ≡ [])
 Tells text line (ending.Written octets) = (octets ≡ text) × (line ≡ [])
 Tells text line (ending.Refused refusal told) = (told ≡ line) × (text ≡ []) × (told ≡ refusal_line refusal)
 Tells text line ending.Usage = usage_line ≡ line
@@ -149,7 +153,7 @@ tells views outcome ending.ReadFault s = tt
 tells views outcome ending.Memory s = tt
 tells views outcome (ending.ViewFault view keeper) s = tt
 tells views outcome (ending.Refused refusal told) s = (s.1 ∙ sym (ap err_text s.0), ap out_text s.0, s.1)
-tells views outcome (ending.Reported report told) s = (s.1 ∙ sym (ap out_text s.0), ap err_text s.0)
+tells views outcome (ending.Reported found told) s = (s.1 ∙ sym (ap out_text s.0), ap err_text s.0)
 tells views outcome (ending.Written octets) s = (sym (ap out_text s), ap err_text s)
 
 tells_nothing : (x : Ending) → EndsWords None x → Tells [] usage_line x
@@ -158,7 +162,7 @@ tells_nothing ending.ReadFault h = tt
 tells_nothing ending.Memory h = tt
 tells_nothing (ending.ViewFault view keeper) h = absurd h
 tells_nothing (ending.Refused refusal told) h = absurd h
-tells_nothing (ending.Reported report told) h = absurd h
+tells_nothing (ending.Reported found told) h = absurd h
 tells_nothing (ending.Written octets) h = absurd h
 
 -- the same for the words, whether they name a job or not
@@ -174,7 +178,7 @@ out_at text line ending.ReadFault old new t w = w
 out_at text line ending.Memory old new t w = w
 out_at text line (ending.ViewFault view keeper) old new t w = w
 out_at text line (ending.Refused refusal told) old new t w = rw t.1 w
-out_at text line (ending.Reported report told) old new t w = by_report (λ s. OutBy text s old new) report (rw (← t.0) w) (rw (← t.0) w)
+out_at text line (ending.Reported found told) old new t w = by_report (λ s. OutBy text s old new) found.report (rw (← t.0) w) (rw (← t.0) w)
 out_at text line (ending.Written octets) old new t w = rw (← t.0) w
 
 out_part : (text line : List ℕ) (x : Ending) (n : ℕ) (old new : Option (List ℕ)) → Tells text line x → Grew old new (take n (out_of x))
@@ -184,7 +188,7 @@ out_part text line ending.ReadFault n old new t w = (0, rw take-nil at w)
 out_part text line ending.Memory n old new t w = (0, rw take-nil at w)
 out_part text line (ending.ViewFault view keeper) n old new t w = (0, rw take-nil at w)
 out_part text line (ending.Refused refusal told) n old new t w = (0, rw take-nil at w)
-out_part text line (ending.Reported report told) n old new t w = (n, rw (← t.0) w)
+out_part text line (ending.Reported found told) n old new t w = (n, rw (← t.0) w)
 out_part text line (ending.Written octets) n old new t w = (n, rw (← t.0) w)
 
 out_by : (text line shown : List ℕ) (x : Ending) (result : Status) (out out' err err' : Stream) → Tells text line x
@@ -205,8 +209,8 @@ err_at text line ending.ReadFault out out' err err' t w = w
 err_at text line ending.Memory out out' err err' t w = w
 err_at text line (ending.ViewFault view keeper) out out' err err' t w = (view, keeper, w)
 err_at text line (ending.Refused refusal told) out out' err err' t w = rw (← t.0) w
-err_at text line (ending.Reported report told) out out' err err' t w =
-    by_report (λ s. ErrBy line s out out' err err') report (rw t.1 w) (rw t.1 w)
+err_at text line (ending.Reported found told) out out' err err' t w =
+    by_report (λ s. ErrBy line s out out' err err') found.report (rw t.1 w) (rw t.1 w)
 err_at text line (ending.Written octets) out out' err err' t w = rw t.1 w
 
 -- what an ending says on err is a line that was to be printed there
@@ -216,7 +220,7 @@ line_of text line ending.ReadFault t = inr (inl refl)
 line_of text line ending.Memory t = inr (inr (inl refl))
 line_of text line (ending.ViewFault view keeper) t = inr (inr (inr (view, keeper, refl)))
 line_of text line (ending.Refused refusal told) t = inl t.0
-line_of text line (ending.Reported report told) t = inl (sym t.1)
+line_of text line (ending.Reported found told) t = inl (sym t.1)
 line_of text line (ending.Written octets) t = inl (sym t.1)
 
 err_by : (text line shown : List ℕ) (x : Ending) (result : Status) (out out' err err' : Stream) → Tells text line x
@@ -240,7 +244,7 @@ keepers_at pairs all old new ending.ReadFault h = h
 keepers_at pairs all old new ending.Memory h = h
 keepers_at pairs all old new (ending.ViewFault view keeper) h = (λ k. cond (nat_lt (k + 1) keeper) view (view - 1), h)
 keepers_at pairs all old new (ending.Refused refusal told) h = h
-keepers_at pairs all old new (ending.Reported report text) h = by_report (λ s. KeepersBy all s pairs old new) report h h
+keepers_at pairs all old new (ending.Reported found text) h = by_report (λ s. KeepersBy all s pairs old new) found.report h h
 keepers_at pairs all old new (ending.Written octets) h = h
 
 nothing : {K : Type 0} (pairs : K → Option (List Pair)) (all : List Pair) (old new : List K) → EachGrew pairs (everywhere []) old new
@@ -254,7 +258,7 @@ keepers_prefix pairs all old new ending.ReadFault h = nothing pairs all old new 
 keepers_prefix pairs all old new ending.Memory h = h
 keepers_prefix pairs all old new (ending.ViewFault view keeper) h = (λ k. cond (nat_lt (k + 1) keeper) view (view - 1), h)
 keepers_prefix pairs all old new (ending.Refused refusal told) h = nothing pairs all old new h
-keepers_prefix pairs all old new (ending.Reported report text) h = have_all pairs old new all h
+keepers_prefix pairs all old new (ending.Reported found text) h = have_all pairs old new all h
 keepers_prefix pairs all old new (ending.Written octets) h = have_all pairs old new all h
 
 -- what holds of an ending, of what it says on err, and of every other status
@@ -266,8 +270,8 @@ failed_at all pairs old new ending.ReadFault err err' h w = tt
 failed_at all pairs old new ending.Memory err err' h w = tt
 failed_at all pairs old new (ending.ViewFault view keeper) err err' h w = record { view = view; keeper = keeper; told = w; have = h }
 failed_at all pairs old new (ending.Refused refusal told) err err' h w = tt
-failed_at all pairs old new (ending.Reported report text) err err' h w =
-    by_report (λ s. ViewFailedBy all s pairs old new err err') report tt tt
+failed_at all pairs old new (ending.Reported found text) err err' h w =
+    by_report (λ s. ViewFailedBy all s pairs old new err err') found.report tt tt
 failed_at all pairs old new (ending.Written octets) err err' h w = tt
 
 failed_by : {K : Type 0} (all : List Pair) (pairs : K → Option (List Pair)) (old new : List K) (x : Ending) (text : List ℕ)
@@ -289,7 +293,7 @@ cause_at faults old new ending.ReadFault err err' h w = tt
 cause_at faults old new ending.Memory err err' h w = tt
 cause_at faults old new (ending.ViewFault view keeper) err err' h w = record { view = view; keeper = keeper; told = w; rose = h }
 cause_at faults old new (ending.Refused refusal told) err err' h w = tt
-cause_at faults old new (ending.Reported report text) err err' h w = by_report (λ s. KeeperCause faults s old new err err') report tt tt
+cause_at faults old new (ending.Reported found text) err err' h w = by_report (λ s. KeeperCause faults s old new err err') found.report tt tt
 cause_at faults old new (ending.Written octets) err err' h w = tt
 
 cause_by : {K : Type 0} (faults : K → ℕ) (old new : List K) (x : Ending) (text : List ℕ) (result : Status) (out out' err err' : Stream)
@@ -331,7 +335,7 @@ handed_first all pairs old new text line (ending.ViewFault view keeper) result o
     absurd (unmoved _ _ _ _ _ _ _ said (λ e. no_text _ _ e) moved)
 handed_first all pairs old new text line (ending.Refused refusal told) result out out' err err' t said h moved =
     absurd (unmoved _ _ _ _ _ _ _ said (λ e. refused_line refusal (sym t.2 ∙ e)) moved)
-handed_first all pairs old new text line (ending.Reported report told) result out out' err err' t said h moved = h
+handed_first all pairs old new text line (ending.Reported found told) result out out' err err' t said h moved = h
 handed_first all pairs old new text line (ending.Written octets) result out out' err err' t said h moved = h
 
 -- ---- all together

@@ -1,8 +1,9 @@
 -- The definitions of a run at examples.
-use Rattle.std.proofs.Common.{◌≡◌, refl, [], ◌∷◌, None, Err}
+use Rattle.std.proofs.Common.{◌≡◌, refl, true, false, [], ◌∷◌, None, Err}
 use Rattle.std.specs.Prelude.{codes}
 use Rattle.std.specs.Char.{encode_utf8}
 use Rattle.std.specs.Fmt.{digits}
+use Rattle.std.specs.List.{flat_map}
 use Rattle.sig_base.specs.declared.method.CanonMethod.TheVariants.{C10}
 use Rattle.sig_base.specs.declared.method.DigestMethod.TheVariants.{Sha256}
 use Rattle.sig_base.specs.declared.method.MacMethod.TheVariants.{HmacSha256}
@@ -14,10 +15,13 @@ use Rattle.transforms.specs.declared.outcome.Report.TheVariants.{ShortTruncation
 use Rattle.transforms.specs.declared.outcome.ValidateRefusal.TheVariants as validation
 use Rattle.transforms.specs.declared.refusal.RefRefusal.TheVariants as target
 use Rattle.job_words.specs.declared.job.Job.TheVariants as job
+use Rattle.manifests.specs.Manifests.{line}
+use Rattle.manifests.specs.declared.lines.ManifestKind.TheVariants as manifest
 use Rattle.signer.specs.declared.refusal.SignRefusal.TheVariants as signing
 use Rattle.xml_read.specs.declared.read.ReadRefusal.TheVariants as read
 use Rattle.xmldsig.specs.Outcome.{names_asked, run_outcome}
-use Rattle.xmldsig.specs.Texts.{refusal_line, report_text, view_fault_line}
+use Rattle.xmldsig.specs.Manifests.{are_told}
+use Rattle.xmldsig.specs.Texts.{manifest_line, refusal_line, report_text, validated_text, view_fault_line}
 use Rattle.xmldsig.specs.declared.ending.Refusal.TheVariants as refusal
 
 abbrev holds_nothing : Held
@@ -53,6 +57,27 @@ worked_truncation = refl
 worked_digests : report_text (DigestsDiffer (1 ∷ 3 ∷ [])) ≡ codes "invalid digests 1 3\n"
 unfolding digits
 worked_digests = refl
+
+-- the lines of Manifests stand behind those of the References
+worked_entries : validated_text (record {
+  report = Valid (record { lengths = 443 ∷ []; octets = [] });
+  lines = line 1 1 manifest.Same ∷ line 1 2 manifest.Differs ∷ line 1 3 (manifest.Refused (target.NotBase64 1)) ∷ [];
+}) ≡ codes "valid\nreference 1 octets 443\nmanifest 1 entry 1 same\nmanifest 1 entry 2 differs\nmanifest 1 entry 3 refused step 1 NotBase64\n"
+unfolding digits
+worked_entries = refl
+
+worked_manifests : flat_map manifest_line
+    (line 2 0 manifest.ManifestTransforms ∷ line 3 0 manifest.NotManifest ∷ line 4 0 (manifest.Fields (field.Missing element.Reference)) ∷ line 5 0 manifest.TooMany ∷ [])
+    ≡ codes "manifest 2 transforms\nmanifest 3 not-manifest\nmanifest 4 fields Missing Reference\nmanifest 5 too-many\n"
+unfolding digits
+worked_manifests = refl
+
+-- none are told beside a report that isn't valid, or where the words don't ask for them
+worked_untold : are_told true (DigestsDiffer (1 ∷ [])) ≡ false
+worked_untold = refl
+
+worked_unasked : are_told false (Valid (record { lengths = []; octets = [] })) ≡ false
+worked_unasked = refl
 
 worked_missing : refusal_line (refusal.Validate (validation.Fields (field.Missing element.Reference))) ≡ codes "refused Missing Reference\n"
 worked_missing = refl

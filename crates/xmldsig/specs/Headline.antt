@@ -8,7 +8,7 @@ use Rattle.signed_views.specs.Handing.{Pair, CountsStand, EachGrew, RoseAt}
 use Rattle.signed_views.specs.declared.handing.Handed.TheVariants as handed
 use Rattle.job_words.specs.declared.job.Job.{Job}
 use Rattle.xmldsig.specs.Ending.{GrewTowards, everywhere}
-use Rattle.xmldsig.specs.Outcome.{Answer, IsValidOutcome, gives_octets, is_built, is_validation, names_for, run_outcome, views_of, wanted}
+use Rattle.xmldsig.specs.Outcome.{Answer, IsValidOutcome, gives_octets, is_validation, names_for, run_outcome, views_of, wanted}
 use Rattle.xmldsig.specs.Outcome.{OfReport, OfOctets}
 use Rattle.xmldsig.specs.Outside.{Moved, Outside, Stream}
 use Rattle.xmldsig.specs.Printed.{Broke, Received, report_status}
@@ -21,7 +21,7 @@ use Rattle.xmldsig.specs.declared.ending.Status.TheVariants as status
 
 -- the status of an outcome
 abbrev pub outcome_status : Result Answer Refusal → Status
-outcome_status (Ok (OfReport report)) = report_status report
+outcome_status (Ok (OfReport told)) = report_status told.report
 outcome_status (Ok (OfOctets octets)) = status.Done
 outcome_status (Err cause) = status.Refused
 
@@ -35,7 +35,7 @@ Agrees views outcome status.Memory = Unit {0}
 Agrees views outcome other = outcome_status outcome ≡ other
 
 -- the statuses that words permit over every folder: words that name no job are Usage, unless a write fails or memory is wanting, and
--- others never are. A job that isn't built asks for nothing
+-- others never are
 abbrev pub UsageBy : Option Job → Status → Type 0
 UsageBy None status.Usage = Unit {0}
 UsageBy None status.WriteFault = Unit {0}
@@ -45,7 +45,6 @@ UsageBy (Some named) status.Done = gives_octets named ≡ true
 UsageBy (Some named) status.Valid = is_validation named ≡ true
 UsageBy (Some named) status.Invalid = is_validation named ≡ true
 UsageBy (Some named) status.Usage = ⊥
-UsageBy (Some named) status.ReadFault = is_built named ≡ true
 UsageBy (Some named) status.ViewFault = (is_validation named ≡ true) × IsSome (views_of named)
 UsageBy (Some named) other = Unit {0}
 

@@ -2,6 +2,7 @@ pub mod Ending
 pub mod Files
 pub mod Form
 pub mod Headline
+pub mod Manifests
 pub mod Outcome
 pub mod Outside
 pub mod Printed

@@ -1,5 +1,5 @@
 -- What a job comes to over the files that a folder holds, and the names that it asks for.
-use Rattle.std.specs.Prelude.{◌||◌, ℕ, Bool, true, false, not, List, [], ◌∷◌, length, is_some, if◌then◌else◌, encode_utf8_all, Option, Some, None, Result, Ok, Err}
+use Rattle.std.specs.Prelude.{ℕ, Bool, true, false, List, [], ◌∷◌, length, is_some, encode_utf8_all, Option, Some, None, Result, Ok, Err}
 use Rattle.sig_base.specs.Outcomes.{and_then}
 use Rattle.sig_outside.specs.Told.{Held}
 use Rattle.signed_views.specs.Handing.{Pair, pairs_of}
@@ -14,38 +14,34 @@ use Rattle.xmldsig.specs.Sign.{signing_names, signing_outcome}
 use Rattle.xmldsig.specs.Template.{options_for, template_outcome}
 use Rattle.xmldsig.specs.Validation.{validation_names, validation_outcome}
 use Rattle.xmldsig.specs.declared.ending.Refusal.{Refusal}
-use Rattle.xmldsig.specs.declared.ending.Refusal.TheVariants as refusal
+use Rattle.xmldsig.specs.declared.ending.Validated.{Validated}
 
--- what a command comes to where it isn't refused: the report of a validation, or octets
+-- what a command comes to where it isn't refused: the report of a validation and the lines of Manifests beside it, or octets
 pub data Answer : Type 0 where
-  OfReport : Report → Answer
+  OfReport : Validated → Answer
   OfOctets : List ℕ → Answer
 
--- ---- what is built: all but a validation of manifests
+-- ---- which of the two a job gives
 
 abbrev pub is_validation : Job → Bool
-is_validation (job.Validate asked views manifests) = not manifests
+is_validation (job.Validate asked views manifests) = true
 is_validation other = false
 
 abbrev pub gives_octets : Job → Bool
 gives_octets (job.Validate asked views manifests) = false
 gives_octets other = true
 
-abbrev pub is_built : Job → Bool
-is_built named = is_validation named || gives_octets named
-
 -- ---- what a job comes to
 
-abbrev pub reported : Result Report Refusal → Result Answer Refusal
-reported outcome = and_then outcome (λ r. Ok (OfReport r))
+abbrev pub reported : Result Validated Refusal → Result Answer Refusal
+reported outcome = and_then outcome (λ v. Ok (OfReport v))
 
 abbrev pub written : Result (List ℕ) Refusal → Result Answer Refusal
 written outcome = and_then outcome (λ octets. Ok (OfOctets octets))
 
 -- the answer of a job, or its first refusal
 abbrev pub run_outcome : Job → Held → Result Answer Refusal
-run_outcome (job.Validate asked views manifests) files =
-    if manifests then Err refusal.NotBuilt else reported (validation_outcome asked (is_some views) files)
+run_outcome (job.Validate asked views manifests) files = reported (validation_outcome asked (is_some views) manifests files)
 run_outcome (job.Canon doc method id xpath prefixes) files = written (form_outcome doc method id xpath prefixes files)
 run_outcome (job.Sign asked) files = written (signing_outcome asked files)
 run_outcome (job.Template doc mac digest key) files = written (template_outcome doc (options_for mac digest key) files)
@@ -53,7 +49,7 @@ run_outcome (job.SelfTest paragraphs) files = written (line_outcome paragraphs)
 
 -- the names that a job asks for, up to its first refusal
 abbrev pub names_asked : Job → Held → List (List ℕ)
-names_asked (job.Validate asked views manifests) files = if manifests then [] else validation_names asked (is_some views) files
+names_asked (job.Validate asked views manifests) files = validation_names asked (is_some views) manifests files
 names_asked (job.Canon doc method id xpath prefixes) files = encode_utf8_all doc ∷ []
 names_asked (job.Sign asked) files = signing_names asked files
 names_asked (job.Template doc mac digest key) files = encode_utf8_all doc ∷ []
@@ -73,7 +69,7 @@ pairs_for (Some dir) other = []
 pairs_for None other = []
 
 abbrev pub pairs_by : Option (List ℕ) → Result Answer Refusal → List Pair
-pairs_by views (Ok (OfReport report)) = pairs_for views report
+pairs_by views (Ok (OfReport told)) = pairs_for views told.report
 pairs_by views (Ok (OfOctets octets)) = []
 pairs_by views (Err cause) = []
 
@@ -93,6 +89,6 @@ IsValid (verdict.Valid views) = Unit {0}
 IsValid other = ⊥
 
 abbrev pub IsValidOutcome : Result Answer Refusal → Type 0
-IsValidOutcome (Ok (OfReport report)) = IsValid report
+IsValidOutcome (Ok (OfReport told)) = IsValid told.report
 IsValidOutcome (Ok (OfOctets octets)) = ⊥
 IsValidOutcome (Err cause) = ⊥

@@ -24,7 +24,7 @@ status_of ending.ReadFault = status.ReadFault
 status_of ending.Memory = status.Memory
 status_of (ending.ViewFault view keeper) = status.ViewFault
 status_of (ending.Refused refusal line) = status.Refused
-status_of (ending.Reported report text) = report_status report
+status_of (ending.Reported told text) = report_status told.report
 status_of (ending.Written octets) = status.Done
 
 -- the line on err
@@ -34,7 +34,7 @@ err_of ending.ReadFault = read_fault_line
 err_of ending.Memory = memory_line
 err_of (ending.ViewFault view keeper) = view_fault_line view keeper
 err_of (ending.Refused refusal line) = line
-err_of (ending.Reported report text) = []
+err_of (ending.Reported told text) = []
 err_of (ending.Written octets) = []
 
 -- a sink has received just these octets, and didn't fail

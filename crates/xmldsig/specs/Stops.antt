@@ -11,6 +11,8 @@ use Rattle.xpath_eval.specs.declared.refusal.EvalRefusal.{EvalRefusal}
 use Rattle.xpath_eval.specs.declared.refusal.EvalRefusal.TheVariants as eval
 use Rattle.transforms.specs.declared.outcome.ValidateRefusal.{ValidateRefusal}
 use Rattle.transforms.specs.declared.outcome.ValidateRefusal.TheVariants as validation
+use Rattle.manifests.specs.declared.lines.ManifestStop.{ManifestStop}
+use Rattle.manifests.specs.declared.lines.ManifestStop.TheVariants as manifest
 use Rattle.self_test.specs.declared.refusal.TestRefusal.{TestRefusal}
 use Rattle.self_test.specs.declared.refusal.TestRefusal.TheVariants as test
 use Rattle.signer.specs.declared.refusal.SignRefusal.{SignRefusal}
@@ -48,6 +50,10 @@ abbrev pub validate_stop : ValidateRefusal → Stop
 validate_stop validation.FetchFailed = stop.ReadFault
 validate_stop validation.Memory = stop.Memory
 validate_stop cause = stop.Refused (refusal.Validate cause)
+
+abbrev pub manifest_stop : ManifestStop → Stop
+manifest_stop manifest.FetchFailed = stop.ReadFault
+manifest_stop manifest.Memory = stop.Memory
 
 abbrev pub sign_stop : SignRefusal → Stop
 sign_stop signing.FetchFailed = stop.ReadFault

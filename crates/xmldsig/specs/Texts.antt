@@ -12,6 +12,9 @@ use Rattle.transforms.specs.declared.refusal.RefRefusal.{RefRefusal}
 use Rattle.transforms.specs.declared.refusal.RefRefusal.TheVariants as target
 use Rattle.transforms.specs.declared.outcome.ValidateRefusal.{ValidateRefusal}
 use Rattle.transforms.specs.declared.outcome.ValidateRefusal.TheVariants as validation
+use Rattle.manifests.specs.declared.lines.ManifestKind.{ManifestKind}
+use Rattle.manifests.specs.declared.lines.ManifestKind.TheVariants as manifest
+use Rattle.manifests.specs.declared.lines.ManifestLine.{ManifestLine}
 use Rattle.signer.specs.declared.refusal.SignRefusal.{SignRefusal}
 use Rattle.signer.specs.declared.refusal.SignRefusal.TheVariants as signing
 use Rattle.uri_refs.specs.declared.catalog.CatalogFault.{CatalogFault}
@@ -28,6 +31,7 @@ use Rattle.xmldsig.specs.Outcome.{Answer}
 use Rattle.xmldsig.specs.Outcome.{OfReport, OfOctets}
 use Rattle.xmldsig.specs.declared.ending.Refusal.{Refusal}
 use Rattle.xmldsig.specs.declared.ending.Refusal.TheVariants as refusal
+use Rattle.xmldsig.specs.declared.ending.Validated.{Validated}
 
 -- the line of the view of reference number i
 abbrev pub reference_line : (i octets : ℕ) → List ℕ
@@ -41,7 +45,7 @@ reference_lines i (octets ∷ others) = reference_line i octets ++ reference_lin
 abbrev pub number_word : ℕ → List ℕ
 number_word i = codes " " ++ decimal i
 
--- the text of a report, on out
+-- the text of a report
 abbrev pub report_text : Report → List ℕ
 report_text (Valid views) = codes "valid\n" ++ reference_lines 1 views.lengths
 report_text SignatureDiffers = codes "invalid signature\n"
@@ -176,7 +180,6 @@ sign_words signing.FetchFailed = codes " FetchFailed"
 sign_words signing.Memory = codes " Memory"
 
 abbrev pub refusal_words : Refusal → List ℕ
-refusal_words refusal.NotBuilt = codes " NotBuilt"
 refusal_words refusal.NoDocument = codes " NoDocument"
 refusal_words refusal.NoKeys = codes " NoKeys"
 refusal_words refusal.KeysTooLarge = codes " KeysTooLarge"
@@ -193,7 +196,32 @@ refusal_words refusal.NoSuchId = codes " NoSuchId"
 refusal_words (refusal.AmbiguousId first second) = two_numbered (codes " AmbiguousId") first second
 refusal_words refusal.OctetsTooLong = codes " OctetsTooLong"
 
--- the lines on err
+-- ---- the lines of Manifests
+
+-- the number of an entry, and what is told of it
+abbrev pub entry_words : (entry : ℕ) → (words : List ℕ) → List ℕ
+entry_words entry words = one_numbered (codes " entry") entry ++ words
+
+-- the first three are told of an entry, the others of a Manifest
+abbrev pub manifest_words : (entry : ℕ) → ManifestKind → List ℕ
+manifest_words entry manifest.Same = entry_words entry (codes " same")
+manifest_words entry manifest.Differs = entry_words entry (codes " differs")
+manifest_words entry (manifest.Refused cause) = entry_words entry (codes " refused" ++ reference_words cause)
+manifest_words entry manifest.ManifestTransforms = codes " transforms"
+manifest_words entry manifest.NotManifest = codes " not-manifest"
+manifest_words entry (manifest.Fields cause) = codes " fields" ++ field_words cause
+manifest_words entry manifest.TooMany = codes " too-many"
+
+-- the number of the Reference that refers to the Manifest stands first
+abbrev pub manifest_line : ManifestLine → List ℕ
+manifest_line line = one_numbered (codes "manifest") line.reference ++ manifest_words line.entry line.kind ++ codes "\n"
+
+-- the text of a report with the lines of Manifests behind it, on out
+abbrev pub validated_text : Validated → List ℕ
+validated_text told = report_text told.report ++ flat_map manifest_line told.lines
+
+-- ---- the lines on err
+
 abbrev pub refusal_line : Refusal → List ℕ
 refusal_line cause = codes "refused" ++ refusal_words cause ++ codes "\n"
 
@@ -215,7 +243,7 @@ memory_line = codes "fault memory\n"
 
 -- what an outcome prints on out, and on err
 abbrev pub out_text : Result Answer Refusal → List ℕ
-out_text (Ok (OfReport report)) = report_text report
+out_text (Ok (OfReport told)) = validated_text told
 out_text (Ok (OfOctets octets)) = octets
 out_text (Err cause) = []
 

@@ -4,6 +4,7 @@ ghost use Rattle.xmldsig.specs.Status.{exit_code};
 
 use core_validate::{Report, ValidateRefusal};
 use digests_hmac::KeyFault;
+use manifests::ManifestLines;
 use sig_base::Octets;
 use signer::SignRefusal;
 use uri_refs::CatalogFault;
@@ -55,8 +56,6 @@ impl Status {
 /// Why a job has no answer.
 #[derive(Clone, Copy, Debug, PartialEq, Eq)]
 pub enum Refusal {
-    /// What the words ask for isn't built yet.
-    NotBuilt,
     /// The folder has no document of that name.
     NoDocument,
     /// The folder has no key file of that name.
@@ -89,6 +88,15 @@ pub enum Refusal {
     OctetsTooLong,
 }
 
+/// What a validation came to.
+#[derive(Drop)]
+pub(crate) struct Validated {
+    /// The report.
+    pub report: Report,
+    /// The lines of Manifests, where they are asked for and the report is valid. They change no verdict.
+    pub lines: ManifestLines,
+}
+
 /// What a run came to, before anything is printed.
 #[derive(Drop)]
 pub(crate) enum Ending {
@@ -103,7 +111,7 @@ pub(crate) enum Ending {
     /// The job is refused, which this line says.
     Refused { refusal: Refusal, line: Octets },
     /// The validation gave a report, of which this is the text.
-    Reported { report: Report, text: Octets },
+    Reported { told: Validated, text: Octets },
     /// The command gave these octets.
     Written { octets: Octets },
 }

@@ -12,17 +12,17 @@ use std::test::Fail;
 
 /// How a run ends: its status, what stands on out and on err, and how many names were asked for.
 #[derive(Clone, Copy)]
-struct End<'e> {
-    status: Status,
-    out: &'e str,
-    err: &'e str,
-    asked: usize,
+pub(crate) struct End<'e> {
+    pub(crate) status: Status,
+    pub(crate) out: &'e str,
+    pub(crate) err: &'e str,
+    pub(crate) asked: usize,
     /// The room on err.
-    room: usize,
+    pub(crate) room: usize,
 }
 
 /// The end of a run that printed this on out.
-fn printed(status: Status, out: &str) -> End<'_> {
+pub(crate) fn printed(status: Status, out: &str) -> End<'_> {
     End {
         status,
         out,
@@ -52,7 +52,7 @@ fn words_of(alloc: Global, line: &str) -> Result<Vec<String>, NoMemory> {
 }
 
 /// The document, the key file, and an empty file.
-fn folder_of(alloc: Global, document: &str) -> Result<MemFolder, NoMemory> {
+pub(crate) fn folder_of(alloc: Global, document: &str) -> Result<MemFolder, NoMemory> {
     let mut folder = MemFolder::new(alloc);
     folder.add("d.xml", document.as_bytes())?;
     folder.add("k.txt", KEYS.as_bytes())?;
@@ -70,11 +70,29 @@ fn expect(
     keepers: &mut Vec<Box<dyn ViewKeeper>>,
     end: End<'_>,
 ) -> Result<(), NoMemory> {
-    let mut folder = folder_of(alloc, document)?;
+    expect_over(
+        rt,
+        alloc,
+        &mut folder_of(alloc, document)?,
+        line,
+        keepers,
+        end,
+    )
+}
+
+/// The same over a folder.
+pub(crate) fn expect_over(
+    rt: &impl Abort,
+    alloc: Global,
+    folder: &mut MemFolder,
+    line: &str,
+    keepers: &mut Vec<Box<dyn ViewKeeper>>,
+    end: End<'_>,
+) -> Result<(), NoMemory> {
     let words = words_of(alloc, line)?;
     let mut out = MemSink::with_room(alloc, 2000)?;
     let mut err = MemSink::with_room(alloc, end.room)?;
-    let status = run(alloc, &words, &mut folder, keepers, &mut out, &mut err);
+    let status = run(alloc, &words, folder, keepers, &mut out, &mut err);
     assert!(rt; out.bytes() == end.out.as_bytes(), "{}", line);
     assert!(rt; err.bytes() == end.err.as_bytes(), "{}", line);
     assert_eq!(rt; status, end.status, "{}", line);
@@ -119,7 +137,7 @@ fn lines(rt: HostRuntime) -> Result<(), Fail> {
         (
             "",
             "validate d.xml --keys k.txt --manifests",
-            refused("refused NotBuilt\n", 0),
+            refused("refused NotWellFormed\n", 2),
         ),
         (
             DOCUMENT,
@@ -288,7 +306,7 @@ fn values(rt: HostRuntime) -> Result<(), Fail> {
 }
 
 /// A keeper that fails at that call.
-fn keeper(alloc: Global, failing: Option<u64>) -> Result<MemKeeper, NoMemory> {
+pub(crate) fn keeper(alloc: Global, failing: Option<u64>) -> Result<MemKeeper, NoMemory> {
     let mut keeper = MemKeeper::new(alloc);
     if let Some(call) = failing {
         keeper.fail_call(call)?;
@@ -311,7 +329,7 @@ fn expect_views(rt: &impl Abort, keeper: &Box<dyn ViewKeeper>, views: &[&str]) {
 }
 
 /// Asserts that each keeper has just the views that stand beside it.
-fn expect_each(rt: &impl Abort, keepers: &[Box<dyn ViewKeeper>], wanted: &[&[&str]]) {
+pub(crate) fn expect_each(rt: &impl Abort, keepers: &[Box<dyn ViewKeeper>], wanted: &[&[&str]]) {
     for (k, keeper) in keepers.iter().enumerate() {
         let Some(views) = wanted.get(k) else {
             panic!(rt);
@@ -323,7 +341,8 @@ fn expect_each(rt: &impl Abort, keepers: &[Box<dyn ViewKeeper>], wanted: &[&[&st
 
 const LINE: &str = "validate d.xml --keys k.txt --views v";
 
-const ONE: &str = "<Object xmlns=\"http://www.w3.org/2000/09/xmldsig#\" Id=\"obj\">Hello</Object>";
+pub(crate) const ONE: &str =
+    "<Object xmlns=\"http://www.w3.org/2000/09/xmldsig#\" Id=\"obj\">Hello</Object>";
 
 const OTHER: &str = "<Object xmlns=\"http://www.w3.org/2000/09/xmldsig#\" Id=\"two\">Two</Object>";
 

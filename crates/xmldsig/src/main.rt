@@ -9,6 +9,10 @@ mod form;
 mod grammar_tests;
 #[cfg(test)]
 mod line_tests;
+mod manifest_check;
+#[cfg(test)]
+mod manifest_tests;
+mod manifest_text;
 mod print;
 mod refusals;
 mod report;

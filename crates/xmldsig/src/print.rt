@@ -62,7 +62,9 @@ pub(crate) fn print<O: Sink, E: Sink>(ending: &Ending, out: &mut O, err: &mut E)
         (stream O.written O.faults out.new) (stream E.written E.faults err.old) (stream E.written E.faults err.new) }
 {
     match ending {
-        Ending::Reported { report, text } => say_out(text.bytes(), report_status(report), out, err),
+        Ending::Reported { told, text } => {
+            say_out(text.bytes(), report_status(&told.report), out, err)
+        }
         Ending::Written { octets } => say_out(octets.bytes(), Status::Done, out, err),
         Ending::Refused { line, .. } => say_err(line.bytes(), Status::Refused, out, err),
         Ending::Usage => say_err(

@@ -15,7 +15,7 @@ use xpath_eval::EvalRefusal;
 use xpath_syntax::SyntaxRefusal;
 
 /// A word that says all.
-fn bare(alloc: Global, word: &str) -> Result<String, NoMemory>
+pub(crate) fn bare(alloc: Global, word: &str) -> Result<String, NoMemory>
     ensures { IfOk result (λ words. string_bytes words ≡ word.now) }
 {
     Ok(String::from_str(alloc, word)?)
@@ -64,7 +64,7 @@ fn key_words(alloc: Global, fault: KeyFault) -> Result<String, NoMemory>
 }
 
 /// The words of a refusal of the fields.
-fn field_words(alloc: Global, cause: FieldRefusal) -> Result<String, NoMemory>
+pub(crate) fn field_words(alloc: Global, cause: FieldRefusal) -> Result<String, NoMemory>
     ensures { IfOk result (λ words. string_bytes words ≡ field_words cause) }
 {
     match cause {
@@ -179,7 +179,7 @@ fn evaluation_words(
 }
 
 /// The words of a refusal of a Reference.
-fn reference_words(alloc: Global, cause: RefRefusal) -> Result<String, NoMemory>
+pub(crate) fn reference_words(alloc: Global, cause: RefRefusal) -> Result<String, NoMemory>
     ensures { IfOk result (λ words. string_bytes words ≡ reference_words cause) }
 {
     match cause {
@@ -261,7 +261,6 @@ fn refusal_words(alloc: Global, refusal: Refusal) -> Result<String, NoMemory>
     ensures { IfOk result (λ words. string_bytes words ≡ refusal_words refusal) }
 {
     match refusal {
-        Refusal::NotBuilt => bare(alloc, " NotBuilt"),
         Refusal::NoDocument => bare(alloc, " NoDocument"),
         Refusal::NoKeys => bare(alloc, " NoKeys"),
         Refusal::KeysTooLarge => bare(alloc, " KeysTooLarge"),

@@ -1,8 +1,10 @@
 //! The text of a report.
 ghost use Rattle.std.specs.Prelude.{◌≡◌, ◌++◌, ◌+◌, OnOk, IfOk, codes, decimal, string_bytes};
 ghost use Rattle.std.specs.List.{flat_map};
-ghost use Rattle.xmldsig.specs.Texts.{number_word, reference_line, reference_lines, report_text};
+ghost use Rattle.xmldsig.specs.Texts.{number_word, reference_line, reference_lines, report_text, validated_text};
 
+use crate::ending::Validated;
+use crate::manifest_text::push_lines;
 use core_validate::Report;
 use sig_base::{NoMemory, Numbers, Octets, Views};
 use std::alloc::Global;
@@ -67,15 +69,23 @@ fn truncation_text(alloc: Global, bits: u32) -> Result<String, NoMemory>
     Ok(format!(in alloc; "invalid truncation {}\n", bits)?)
 }
 
-/// The text of a report, as it is printed on standard output.
-pub(crate) fn text_of(alloc: Global, report: &Report) -> Result<Octets, NoMemory>
-    ensures { IfOk result (λ text. text ≡ report_text report.now) }
+/// The text of a report.
+fn report_text(alloc: Global, report: &Report) -> Result<String, NoMemory>
+    ensures { IfOk result (λ text. string_bytes text ≡ report_text report.now) }
 {
-    let text = match report {
-        Report::Valid(views) => valid_text(alloc, views)?,
-        Report::SignatureDiffers => String::from_str(alloc, "invalid signature\n")?,
-        Report::ShortTruncation(bits) => truncation_text(alloc, *bits)?,
-        Report::DigestsDiffer(numbers) => digests_text(alloc, numbers)?,
-    };
+    match report {
+        Report::Valid(views) => valid_text(alloc, views),
+        Report::SignatureDiffers => Ok(String::from_str(alloc, "invalid signature\n")?),
+        Report::ShortTruncation(bits) => truncation_text(alloc, *bits),
+        Report::DigestsDiffer(numbers) => digests_text(alloc, numbers),
+    }
+}
+
+/// The text of a report with the lines of Manifests behind it, as it is printed on standard output.
+pub(crate) fn text_of(alloc: Global, told: &Validated) -> Result<Octets, NoMemory>
+    ensures { IfOk result (λ text. text ≡ validated_text told.now) }
+{
+    let mut text = report_text(alloc, &told.report)?;
+    push_lines(alloc, &told.lines, &mut text)?;
     Ok(Octets::from_vec(text.into_bytes()))
 }

@@ -1,5 +1,5 @@
 //! From the words to an ending: everything but what is printed.
-ghost use Rattle.std.specs.Prelude.{◌≡◌, Some, false, length, map, string_bytes};
+ghost use Rattle.std.specs.Prelude.{◌≡◌, Some, length, map, string_bytes};
 ghost use Rattle.core_validate.specs.Answers.{HasFewViews};
 ghost use Rattle.job_words.specs.Job.{job_of};
 ghost use Rattle.job_words.specs.declared.job.Job.TheVariants as named;
@@ -8,7 +8,7 @@ ghost use Rattle.xmldsig.specs.Code.Ending.{KeepersHave, OctetsEnd, RefusalEnds,
 ghost use Rattle.xmldsig.specs.Outcome as spec;
 ghost use Rattle.xmldsig.specs.Outside.{asking};
 
-use crate::ending::{Ending, Refusal};
+use crate::ending::{Ending, Refusal, Validated};
 use crate::form::{Form, find_form};
 use crate::refusals::line_of;
 use crate::report::text_of;
@@ -29,31 +29,31 @@ use std::alloc::Global;
 /// memory that a run takes.
 fn deliver_report<K: ViewKeeper>(
     alloc: Global,
-    report: Report,
+    told: Validated,
     views: &Option<Text>,
     keepers: &mut Vec<K>,
 ) -> Ending
-    requires { HasFewViews report }
-    ensures ends { ReportEnds views.now report result }
-    ensures keepers { KeepersHave (spec.pairs_for views.now report) result K.pairs keepers.old.items keepers.new.items }
+    requires { HasFewViews told.report }
+    ensures ends { ReportEnds views.now told result }
+    ensures keepers { KeepersHave (spec.pairs_for views.now told.report) result K.pairs keepers.old.items keepers.new.items }
     ensures number { length keepers.new.items ≡ length keepers.old.items }
     ensures counts { CountsStand K.faults keepers.old.items keepers.new.items }
     ensures cause { ViewCause K.faults result keepers.old.items keepers.new.items }
 {
-    let Ok(text) = text_of(alloc, &report) else {
+    let Ok(text) = text_of(alloc, &told) else {
         return Ending::Memory;
     };
     let Some(dir) = views else {
-        return Ending::Reported { report, text };
+        return Ending::Reported { told, text };
     };
-    let Report::Valid(kept) = &report else {
-        return Ending::Reported { report, text };
+    let Report::Valid(kept) = &told.report else {
+        return Ending::Reported { told, text };
     };
     let Ok(names) = view_names(alloc, dir.as_str(), kept.octets.len() as u32) else {
         return Ending::Memory;
     };
     match hand_on(keepers, &names, kept) {
-        Handed::Done => Ending::Reported { report, text },
+        Handed::Done => Ending::Reported { told, text },
         Handed::Failed { view, keeper } => Ending::ViewFault { view, keeper },
         Handed::Memory { .. } => Ending::Memory,
     }
@@ -86,14 +86,15 @@ fn settle_validation<F: Folder, K: ViewKeeper>(
     alloc: Global,
     asked: Asked,
     views: Option<Text>,
+    manifests: bool,
     folder: &mut F,
     keepers: &mut Vec<K>,
 ) -> Ending
-    ensures { Settled K.pairs K.faults (Some (named.Validate asked views false)) (F.held folder.old) result
+    ensures { Settled K.pairs K.faults (Some (named.Validate asked views manifests)) (F.held folder.old) result
         (asking F.asked F.faults folder.old) (asking F.asked F.faults folder.new) keepers.old.items keepers.new.items }
 {
-    match find_report(alloc, asked, views.is_some(), folder) {
-        Ok(report) => deliver_report(alloc, report, &views, keepers),
+    match find_report(alloc, asked, views.is_some(), manifests, folder) {
+        Ok(told) => deliver_report(alloc, told, &views, keepers),
         Err(Stop::Refused(refusal)) => deliver_refusal(alloc, refusal),
         Err(Stop::ReadFault) => Ending::ReadFault,
         Err(Stop::Memory) => Ending::Memory,
@@ -174,13 +175,7 @@ fn settle_job<F: Folder, K: ViewKeeper>(
             asked,
             views,
             manifests,
-        } => {
-            if manifests {
-                deliver_refusal(alloc, Refusal::NotBuilt)
-            } else {
-                settle_validation(alloc, asked, views, folder, keepers)
-            }
-        }
+        } => settle_validation(alloc, asked, views, manifests, folder, keepers),
         Job::Canon {
             doc,
             method,

@@ -6,6 +6,7 @@ ghost use Rattle.xmldsig.specs.Stops as spec;
 use crate::ending::Refusal;
 use core_validate::ValidateRefusal;
 use digests_hmac::KeyFault;
+use manifests::ManifestStop;
 use self_test::TestRefusal;
 use sig_base::NoMemory;
 use signer::{SignRefusal, TemplateRefusal};
@@ -107,6 +108,17 @@ impl Stop {
             _ => Stop::Refused(Refusal::Validate(cause)),
         }
     }
+
+    /// Why Manifests without lines stop a job.
+    pub(crate) fn by_manifests(stop: ManifestStop) -> Stop
+        ensures { result ≡ spec.manifest_stop stop }
+    {
+        match stop {
+            ManifestStop::FetchFailed => Stop::ReadFault,
+            ManifestStop::Memory => Stop::Memory,
+        }
+    }
+
     /// Why a template that isn't signed stops a job.
     pub(crate) fn by_signing(cause: SignRefusal) -> Stop
         ensures { result ≡ spec.sign_stop cause }

@@ -17,7 +17,8 @@ use std::alloc::Global;
 ///
 /// The folder's files and the words alone decide. A validation is `Valid` exactly where the HMAC over the canonical
 /// SignedInfo is the signature value and the digest of each Reference's view is its DigestValue (XML Signature 1.1 §3.2).
-/// Then each keeper receives the views, if the words ask for them, and only then anything is printed.
+/// What Manifests say of their entries is looked at behind that, if the words ask for it, and changes no verdict. Then each keeper
+/// receives the views, if the words ask for them, and only then anything is printed.
 pub fn run<F: Folder, K: ViewKeeper, O: Sink, E: Sink>(
     alloc: Global,
     words: &[String],

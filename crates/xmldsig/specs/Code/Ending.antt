@@ -5,15 +5,15 @@ use Rattle.sig_outside.specs.Told.{Held}
 use Rattle.signed_views.specs.Given.{handed_to}
 use Rattle.signed_views.specs.Handing.{Pair, CountsStand, EachGrew, RoseAt}
 use Rattle.signed_views.specs.declared.handing.Handed.TheVariants as handed
-use Rattle.transforms.specs.declared.outcome.Report.{Report}
 use Rattle.job_words.specs.declared.job.Job.{Job}
-use Rattle.xmldsig.specs.Outcome.{Answer, IsValid, IsValidOutcome, gives_octets, is_built, is_validation, names_for, run_outcome, views_of, wanted}
+use Rattle.xmldsig.specs.Outcome.{Answer, IsValid, IsValidOutcome, gives_octets, is_validation, names_for, run_outcome, views_of, wanted}
 use Rattle.xmldsig.specs.Outcome.{OfReport, OfOctets}
 use Rattle.xmldsig.specs.Outside.{Asking}
-use Rattle.xmldsig.specs.Texts.{refusal_line, report_text}
+use Rattle.xmldsig.specs.Texts.{refusal_line, validated_text}
 use Rattle.xmldsig.specs.declared.ending.Refusal.{Refusal}
 use Rattle.xmldsig.specs.declared.ending.Ending.{Ending}
 use Rattle.xmldsig.specs.declared.ending.Ending.TheVariants as ending
+use Rattle.xmldsig.specs.declared.ending.Validated.{Validated}
 use Rattle.xmldsig.specs.declared.stop.Stop.{Stop}
 use Rattle.xmldsig.specs.declared.stop.Stop.TheVariants as stop
 use Rattle.xmldsig.specs.Ending.{everywhere, GrewTowards}
@@ -24,9 +24,8 @@ EndsWords None ending.Usage = Unit {0}
 EndsWords None ending.Memory = Unit {0}
 EndsWords None other = ⊥
 EndsWords (Some named) ending.Usage = ⊥
-EndsWords (Some named) ending.ReadFault = is_built named ≡ true
 EndsWords (Some named) (ending.ViewFault view keeper) = (is_validation named ≡ true) × IsSome (views_of named)
-EndsWords (Some named) (ending.Reported report text) = is_validation named ≡ true
+EndsWords (Some named) (ending.Reported told text) = is_validation named ≡ true
 EndsWords (Some named) (ending.Written octets) = gives_octets named ≡ true
 EndsWords (Some named) other = Unit {0}
 
@@ -37,7 +36,7 @@ Settles views outcome ending.ReadFault = Unit {0}
 Settles views outcome ending.Memory = Unit {0}
 Settles views outcome (ending.ViewFault view keeper) = IsSome views × IsValidOutcome outcome
 Settles views outcome (ending.Refused refusal line) = (outcome ≡ Err refusal) × (line ≡ refusal_line refusal)
-Settles views outcome (ending.Reported report text) = (outcome ≡ Ok (OfReport report)) × (text ≡ report_text report)
+Settles views outcome (ending.Reported told text) = (outcome ≡ Ok (OfReport told)) × (text ≡ validated_text told)
 Settles views outcome (ending.Written octets) = outcome ≡ Ok (OfOctets octets)
 
 abbrev pub SettlesWords : Option Job → Held → Ending → Type 0
@@ -59,7 +58,7 @@ FolderCounts other before now = now ≡ before
 abbrev pub KeepersHave : {K : Type 0} → List Pair → Ending → (K → Option (List Pair)) → (old new : List K) → Type 0
 KeepersHave all ending.Memory pairs old new = GrewTowards pairs all old new
 KeepersHave all (ending.ViewFault view keeper) pairs old new = EachGrew pairs (handed_to all (handed.Failed view keeper)) old new
-KeepersHave all (ending.Reported report text) pairs old new = EachGrew pairs (everywhere all) old new
+KeepersHave all (ending.Reported told text) pairs old new = EachGrew pairs (everywhere all) old new
 KeepersHave all (ending.Written octets) pairs old new = EachGrew pairs (everywhere all) old new
 KeepersHave all other pairs old new = EachGrew pairs (everywhere []) old new
 
@@ -68,17 +67,17 @@ abbrev pub ViewCause : {K : Type 0} → (K → ℕ) → Ending → (old new : Li
 ViewCause faults (ending.ViewFault view keeper) old new = RoseAt faults (keeper - 1) old new
 ViewCause faults other old new = Unit {0}
 
--- how delivering a refusal ends, and how delivering a report does
+-- how delivering a refusal ends, and how delivering a report with the lines beside it does
 abbrev pub RefusalEnds : Refusal → Ending → Type 0
 RefusalEnds cause ending.Memory = Unit {0}
 RefusalEnds cause (ending.Refused refusal line) = (refusal ≡ cause) × (line ≡ refusal_line refusal)
 RefusalEnds cause other = ⊥
 
-abbrev pub ReportEnds : (views : Option (List ℕ)) → Report → Ending → Type 0
-ReportEnds views report ending.Memory = Unit {0}
-ReportEnds views report (ending.ViewFault view keeper) = IsSome views × IsValid report
-ReportEnds views report (ending.Reported told text) = (told ≡ report) × (text ≡ report_text report)
-ReportEnds views report other = ⊥
+abbrev pub ReportEnds : (views : Option (List ℕ)) → Validated → Ending → Type 0
+ReportEnds views found ending.Memory = Unit {0}
+ReportEnds views found (ending.ViewFault view keeper) = IsSome views × IsValid found.report
+ReportEnds views found (ending.Reported told text) = (told ≡ found) × (text ≡ validated_text found)
+ReportEnds views found other = ⊥
 
 -- how delivering octets ends, or why there are none
 abbrev pub OctetsEnd : Result (List ℕ) Stop → Ending → Type 0

@@ -18,6 +18,6 @@ hand_on-requires g c = ap length c.in-Ok-view_names.ensures ∙ length-map-range
 pub returns-in-Memory-clause-keepers : goal.returns-in-Memory-clause-keepers
 returns-in-Memory-clause-keepers g c =
     let names = c.in-Ok-view_names.ensures ∙ ap (view_names c.as_str.result.now) c.len.ensures in
-    let same = pairs_are c.args.views.now c.args.report c.in-Some.dir c.as_str.result.now c.in-Valid.kept _ c.in-Some.is c.in-Valid.is c.as_str.ensures.bytes names in
-    have_handed g.K.ViewKeeper.pairs _ _ (pairs_for c.args.views.now c.args.report) (handed.Memory c.in-Memory.view c.in-Memory.keeper)
-    (have_handed_pairs g.K.ViewKeeper.pairs _ _ c.args.views.now c.args.report _ (handed.Memory c.in-Memory.view c.in-Memory.keeper) same c.in-Memory.ensures.grew)
+    let same = pairs_are c.args.views.now c.args.told.report c.in-Some.dir c.as_str.result.now c.in-Valid.kept _ c.in-Some.is c.in-Valid.is c.as_str.ensures.bytes names in
+    have_handed g.K.ViewKeeper.pairs _ _ (pairs_for c.args.views.now c.args.told.report) (handed.Memory c.in-Memory.view c.in-Memory.keeper)
+    (have_handed_pairs g.K.ViewKeeper.pairs _ _ c.args.views.now c.args.told.report _ (handed.Memory c.in-Memory.view c.in-Memory.keeper) same c.in-Memory.ensures.grew)

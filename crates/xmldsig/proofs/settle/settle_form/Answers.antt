@@ -10,5 +10,5 @@ returns g c =
     let job = named.Canon c.args.doc form.method form.id form.xpath form.prefixes in
     found_settled g.K.ViewKeeper.pairs g.K.ViewKeeper.faults job _
     (form_outcome c.args.doc form.method form.id form.xpath form.prefixes) c.find_form.result c.deliver_octets.result _ _ _
-    refl refl (λ files. refl)
+    refl (λ files. refl)
     c.deliver_octets.ensures c.find_form.ensures.outcome c.find_form.ensures.asked c.find_form.ensures.cause

@@ -10,5 +10,5 @@ returns g c =
     let job = named.Template c.args.doc options.mac options.digest options.key_name in
     found_settled g.K.ViewKeeper.pairs g.K.ViewKeeper.faults job _
     (template_outcome c.args.doc options) c.make_template.result c.deliver_octets.result _ _ _
-    refl refl (λ files. refl)
+    refl (λ files. refl)
     c.deliver_octets.ensures c.make_template.ensures.outcome c.make_template.ensures.asked c.make_template.ensures.cause

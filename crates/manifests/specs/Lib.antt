@@ -1,0 +1,6 @@
+pub mod Answers
+pub mod Elements
+pub mod Findings
+pub mod Laws
+pub mod Manifests
+pub mod Code
