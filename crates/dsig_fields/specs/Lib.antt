@@ -11,4 +11,5 @@ pub mod Holds
 pub mod Fits
 pub mod Content
 pub mod Manifests
+pub mod Same
 pub mod Code
