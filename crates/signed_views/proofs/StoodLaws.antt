@@ -1,13 +1,12 @@
 -- Steps of bringing the keepers that stood to the front, each by a swap.
-use Rattle.std.proofs.Common.{◌≡◌, ◌≢◌, ◌<◌, ◌≤◌, ◌++◌, ◌∙◌, ap, sym, subst, refl, ℕ, List, length, take, get_or, arith, ◌+◌, [], ◌∷◌, map, zip, true, false, min, filter, eqb, inl, inr, set, get_or-set_other, Bool, cond}
-use Rattle.std.proofs.lemmas.List.{take_more, take-set, take-set-le, take_more_set, length-map, take_all, append-nil, map-append, length-set, get_or_default}
+use Rattle.std.proofs.Common.{◌≡◌, ◌≢◌, ◌<◌, ◌≤◌, ◌++◌, ◌∙◌, ap, sym, subst, refl, ℕ, List, length, take, get_or, arith, ◌+◌, [], ◌∷◌, zip, inl, inr, set, get_or-set_other}
+use Rattle.std.proofs.lemmas.List.{take_more, take-set, take-set-le, take_more_set, take_all, append-nil, map-append, length-set, get_or_default}
 use Rattle.std.proofs.lemmas.List.Elements.{filter-append}
 use Rattle.std.proofs.lemmas.List.Edits.{swap_is}
 use Rattle.std.proofs.lemmas.Slice.Zip.{get_or-zip, length-zip}
 use Rattle.std.proofs.lemmas.Bool.{cases_eq}
 use Rattle.std.specs.List.{swap}
 use Rattle.signed_views.specs.Stood.{stood, stood_of}
-use Rattle.signed_views.proofs.Places.{read_at}
 
 -- those that stood so far are in front, and from the place on all are as before
 pub record StoodSoFar {K : Type 0} (faults : K → ℕ) (before : List ℕ) (old now : List K) (kept place : ℕ) : Type 0 where
@@ -33,9 +32,9 @@ stood_still faults pairs x c e = grind (arith, filter-append, map-append, append
 -- the front after a swap of the place behind it with a later one, or the same
 front_swapped : {K : Type 0} (now : List K) (kept i : ℕ) (x : K) → kept ≤ i → i < length now → get_or now i x ≡ x → take (kept + 1) (set (set now kept (get_or now i x)) i (get_or now kept x)) ≡ take kept now ++ x ∷ []
 front_swapped now kept i x le lt read = elim (cases_eq kept i) [
-    | inl e ↦ rw (e, take_more_set (set now i (get_or now i x)) i (get_or now i x) (omega (arith, length-set now i (get_or now i x), lt)), take-set now i (get_or now i x), read) refl
-    | inr ne ↦ rw (take-set-le (kept + 1) (set now kept (get_or now i x)) i (get_or now kept x) (omega (arith, le, ne)), take_more_set now kept (get_or now i x) (omega (arith, le, lt)), read) refl
-  ]
+  | inl e ↦ rw (e, take_more_set (set now i (get_or now i x)) i (get_or now i x) (omega (arith, length-set now i (get_or now i x), lt)), take-set now i (get_or now i x), read) refl
+  | inr ne ↦ rw (take-set-le (kept + 1) (set now kept (get_or now i x)) i (get_or now kept x) (omega (arith, le, ne)), take_more_set now kept (get_or now i x) (omega (arith, le, lt)), read) refl
+]
 
 -- a keeper that stood comes to the front
 pub stood_kept : {K : Type 0} (faults : K → ℕ) (before : List ℕ) (old now : List K) (kept i : ℕ) (x : K) → StoodSoFar faults before old now kept i → length old ≡ length before → i < length old → x ≡ get_or now i x → faults x ≡ get_or before i 0 → StoodSoFar faults before old (swap now kept i) (kept + 1) (i + 1)
