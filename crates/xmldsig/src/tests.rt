@@ -2,11 +2,15 @@
 
 use crate::ending::Status;
 use crate::top::run;
-use sig_base::NoMemory;
+use bumpalo::Bump;
+use dsig_fields::{Info, read_info};
+use sig_base::{CanonMethod, MacMethod, NoMemory};
 use sig_outside::{MemFolder, MemKeeper, MemSink};
 use std::alloc::Global;
 use std::process::Abort;
 use std::test::Fail;
+use xml_doc::Doc;
+use xml_read::read_document;
 
 /// The enveloping example, of which each test may change a part.
 pub(crate) const DOCUMENT: &str =
@@ -250,4 +254,37 @@ fn documents_that_are_refused(rt: HostRuntime) -> Result<(), Fail> {
         expect_refusal(&rt, rt.alloc(), with_document(text), err)?;
     }
     Ok(())
+}
+
+/// Asserts what the SignedInfo of the enveloping example says.
+fn expect_info(rt: &impl Abort, info: &Info) {
+    assert!(rt; info.canon == CanonMethod::C10);
+    assert!(rt; info.mac == MacMethod::HmacSha256);
+    assert!(rt; info.bits.is_none());
+    let Some(reference) = info.references.get(0) else {
+        panic!(rt);
+    };
+    assert!(rt; reference.uri.as_str() == "#obj");
+    assert!(rt; info.references.get(1).is_none());
+}
+
+/// Reads the SignedInfo of the enveloping example, which is row 4.
+fn expect_info_of_rows(rt: &impl Abort, alloc: Global, doc: &Doc<'_>) {
+    if doc.rows() <= 4 {
+        panic!(rt);
+    }
+    match read_info(alloc, doc, 4) {
+        Ok(info) => expect_info(rt, &info),
+        Err(_) => panic!(rt),
+    }
+}
+
+#[test]
+fn signed_info_alone(rt: HostRuntime) {
+    let alloc = rt.alloc();
+    let bump = Bump::new(alloc);
+    match read_document(alloc, &bump, DOCUMENT.as_bytes()) {
+        Ok(doc) => expect_info_of_rows(&rt, alloc, &doc),
+        Err(_) => panic!(rt),
+    }
 }
