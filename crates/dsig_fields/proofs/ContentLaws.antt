@@ -1,7 +1,7 @@
 -- Children that stand, passed-over ones aside, and what reading them in order gives.
-use Rattle.std.proofs.Common.{◌≡◌, ◌∙◌, ◌↔◌, ℕ, ◌&&◌, Bool, true, false, not, cond, List, [], ◌∷◌, ◌++◌, Option, Some, None, Result, Ok, Err, refl, ap, sym, subst}
+use Rattle.std.proofs.Common.{◌≡◌, ◌∙◌, ℕ, ◌&&◌, Bool, true, false, List, [], ◌∷◌, ◌++◌, Option, Some, None, Result, Ok, Err, refl, ap, sym, subst}
 use Rattle.std.specs.Prelude.{bytes_eq, if◌then◌else◌}
-use Rattle.std.specs.List.{All, filter}
+use Rattle.std.specs.List.{All}
 use Rattle.std.specs.Option.{option_to_list}
 use Rattle.std.proofs.lemmas.Bool.{and_parts, false≢true}
 use Rattle.std.proofs.lemmas.List.{append-nil}
@@ -12,7 +12,7 @@ use Rattle.xml_doc.specs.Rows.{RowOf}
 use Rattle.xml_doc.specs.Shape.{row_at}
 use Rattle.xml_doc.specs.declared.row.Kind.{Kind}
 use Rattle.xml_doc.specs.declared.row.Kind.TheVariants as kind
-use Rattle.dsig_fields.specs.Content.{AreNamed, CanBeRead, IsContent, ReadExactly, standing}
+use Rattle.dsig_fields.specs.Content.{AreNamed, CanBeRead, ReadExactly, standing}
 use Rattle.dsig_fields.specs.Fields.{fields_of, info_fields, joined_fields, key_info_if}
 use Rattle.dsig_fields.specs.Names.{local_name, namespace_of}
 use Rattle.dsig_fields.specs.Reading.{◌>>=◌, at_end, behind_all, children, is_element_at, is_named, is_passed, none_left, optional, or_none, or_refusal, passed, passes_over, required, taken}

@@ -1,9 +1,8 @@
 -- What holds of the fields that are read: their rows are elements, and they keep within the limits.
-use Rattle.std.proofs.Common.{◌≡◌, ℕ, ◌<◌, ◌≤◌, ◌-◌, ◌==◌, Bool, true, false, inl, inr, List, [], ◌∷◌, length, refl, sym, ◌∙◌, arith}
-use Rattle.std.specs.Prelude.{Option, Some, None, Result, Ok, Err, ◌&&◌, IfOk, bytes_eq, codes, if◌then◌else◌}
+use Rattle.std.proofs.Common.{◌≡◌, ℕ, ◌<◌, ◌≤◌, ◌-◌, ◌==◌, Bool, true, false, List, [], ◌∷◌, length, refl, sym, ◌∙◌, arith}
+use Rattle.std.specs.Prelude.{Option, Some, None, Result, Ok, Err, IfOk, bytes_eq, codes, if◌then◌else◌}
 use Rattle.std.specs.List.{All}
-use Rattle.std.proofs.lemmas.Bool.{cases_lt, eqb-false, false≢true}
-use Rattle.std.proofs.lemmas.List.{get_or_past}
+use Rattle.std.proofs.lemmas.Bool.{eqb-false, false≢true}
 use Rattle.std.proofs.lemmas.List.Elements.{All-cons}
 use Rattle.sig_base.specs.Methods.{is_exclusive, canon_method_of, mac_method_of}
 use Rattle.sig_base.specs.declared.method.CanonMethod.{CanonMethod}
@@ -14,7 +13,7 @@ use Rattle.dsig_fields.specs.Fields.{algorithm, mac_refusal, filter_kind_in, dig
 use Rattle.dsig_fields.specs.Fields.{bare_step, xpath_step, filters_step}
 use Rattle.dsig_fields.specs.Fits.{IsElement, PrefixesFit, FilterFits, StepFits, ReferenceFits, InfoFits, FieldsFit}
 use Rattle.dsig_fields.specs.Lengths.{length_in, kept_if, decimal_in, trimmed, may_keep}
-use Rattle.dsig_fields.specs.Reading.{Gives, ◌>>=◌, or_refusal, attribute, passed, taken, required, optional, optional_if, behind_all, many, one_or_more, at_end, children, is_named, is_element_at, is_passed}
+use Rattle.dsig_fields.specs.Reading.{Gives, or_refusal, attribute, passed, taken, required, optional, optional_if, behind_all, many, one_or_more, at_end, children, is_named, is_element_at, is_passed}
 use Rattle.dsig_fields.specs.Simple.{simple_text, simple_octets}
 use Rattle.dsig_fields.specs.declared.names.ElementName.{ElementName}
 use Rattle.dsig_fields.specs.declared.names.ElementName.TheVariants as names
@@ -29,7 +28,7 @@ use Rattle.dsig_fields.specs.declared.fields.Info.{Info}
 use Rattle.dsig_fields.specs.declared.fields.Fields.{Fields}
 use Rattle.dsig_fields.specs.declared.fields.Canonicalization.{Canonicalization}
 use Rattle.dsig_fields.specs.declared.fields.Authentication.{Authentication}
-use Rattle.dsig_fields.proofs.RiseLaws.{InOrder, rows_in_order}
+use Rattle.dsig_fields.proofs.RiseLaws.{rows_in_order}
 use Rattle.dsig_fields.proofs.Steps.{then_fits, in_any_case, named_fits}
 
 -- ---- steps

@@ -13,4 +13,5 @@ pub mod SameLaws
 pub mod SignatureLaws
 pub mod SimpleLaws
 pub mod Steps
+pub mod VerdictLaws
 pub mod Worked

@@ -1,6 +1,6 @@
 -- The rows that are read from a signature stand in document order.
-use Rattle.std.proofs.Common.{◌≡◌, ℕ, zero, suc, ◌+◌, ◌-◌, ◌<◌, ◌≤◌, ◌==◌, ◌&&◌, Bool, true, false, not, cond, if◌then◌else◌, eqb, nat_lt, inl, inr, List, [], ◌∷◌, length, map, refl, sym, ap, subst, ◌∙◌, arith}
-use Rattle.std.specs.Prelude.{Option, Some, None, Result, Ok, Err, IfOk, codes}
+use Rattle.std.proofs.Common.{◌≡◌, ℕ, zero, suc, ◌+◌, ◌-◌, ◌<◌, ◌≤◌, ◌==◌, ◌&&◌, Bool, true, false, not, cond, if◌then◌else◌, eqb, nat_lt, inl, inr, List, [], ◌∷◌, length, map, refl, sym, ap, subst, arith}
+use Rattle.std.specs.Prelude.{Option, Some, None, Ok, Err, IfOk, codes}
 use Rattle.std.specs.List.{All, filter, range_with_len}
 use Rattle.std.proofs.lemmas.Bool.{cases_lt, eqb-true, and_parts, ltb-true, false≢true}
 use Rattle.std.proofs.lemmas.List.{get_or_past}
@@ -17,11 +17,10 @@ use Rattle.dsig_fields.specs.Reading.{◌>>=◌, or_refusal, or_none, attribute,
 use Rattle.dsig_fields.specs.Simple.{simple_octets}
 use Rattle.dsig_fields.specs.declared.names.ElementName.{ElementName}
 use Rattle.dsig_fields.specs.declared.names.ElementName.TheVariants as names
-use Rattle.dsig_fields.specs.declared.refusal.FieldRefusal.{FieldRefusal}
 use Rattle.dsig_fields.specs.declared.refusal.FieldRefusal.TheVariants.{Extra, Missing, NoUri, TooManyReferences}
 use Rattle.dsig_fields.specs.declared.fields.Reference.{Reference}
 use Rattle.dsig_fields.specs.declared.fields.Fields.{Fields}
-use Rattle.dsig_fields.proofs.Steps.{then_fits, in_any_case, element_within, named_fits}
+use Rattle.dsig_fields.proofs.Steps.{then_fits, in_any_case, named_fits}
 
 -- the Reference is that of row y, and its DigestValue lies in it
 record IsIn (rows : List RowOf) (y : ℕ) (r : Reference) : Type 0 where

@@ -1,5 +1,5 @@
 -- Readings of children that say the same.
-use Rattle.std.proofs.Common.{◌≡◌, ℕ, suc, ◌-◌, ◌==◌, Bool, true, false, List, [], ◌∷◌, ◌++◌, map, refl, sym, ap, subst, ◌∙◌}
+use Rattle.std.proofs.Common.{◌≡◌, ℕ, ◌-◌, ◌==◌, Bool, true, false, List, [], ◌∷◌, ◌++◌, map, refl, sym, ap, subst, ◌∙◌}
 use Rattle.std.specs.Prelude.{Option, Some, None, Result, Ok, Err, ◌&&◌, bytes_eq, option_map, if◌then◌else◌}
 use Rattle.std.specs.List.{list_all}
 use Rattle.std.proofs.lemmas.Bool.{false≢true}
@@ -12,12 +12,12 @@ use Rattle.xml_doc.specs.declared.row.Kind.{Kind}
 use Rattle.xml_doc.specs.declared.row.Kind.TheVariants as kinds
 use Rattle.dsig_fields.specs.Names.{local_name, namespace_of}
 use Rattle.dsig_fields.specs.Reading.{◌>>=◌, or_refusal, passed, passes_over, taken, required, or_none, optional, optional_if, none_left, many, one_or_more, at_end, children, is_named, is_element_at, is_passed}
-use Rattle.dsig_fields.specs.Same.{Item, Octet, Aside, Inner, told_before, items, Pairwise, SameItem, SameItems, SaysTheSame}
+use Rattle.dsig_fields.specs.Same.{Item, Octet, Aside, Inner, told_before, items, Pairwise, SameItems, SaysTheSame}
 use Rattle.dsig_fields.specs.Simple.{added_by, joined, simple_text, simple_octets}
 use Rattle.dsig_fields.specs.declared.names.ElementName.{ElementName}
 use Rattle.dsig_fields.specs.declared.refusal.FieldRefusal.{FieldRefusal}
 use Rattle.dsig_fields.specs.declared.refusal.FieldRefusal.TheVariants.{BadBase64, Missing, Extra}
-use Rattle.dsig_fields.proofs.ManyLaws.{before_others, after, many_is}
+use Rattle.dsig_fields.proofs.ManyLaws.{after, many_is}
 
 -- ---- outcomes of which the second is none where the first is one
 abbrev pub Follows : {A : Type 0} → (A → A → Type 0) → Result A FieldRefusal → Result A FieldRefusal → Type 0

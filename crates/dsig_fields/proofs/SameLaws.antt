@@ -1,6 +1,6 @@
 -- Elements of a signature that say the same: XML Signature 1.1, section 4.
-use Rattle.std.proofs.Common.{◌≡◌, ℕ, suc, Bool, true, false, List, [], ◌∷◌, refl, sym, ap, subst}
-use Rattle.std.specs.Prelude.{Option, Some, None, Result, Ok, Err, bytes_eq, codes, if◌then◌else◌}
+use Rattle.std.proofs.Common.{◌≡◌, ℕ, zero, suc, Bool, true, false, List, [], ◌∷◌, refl, sym, ap, subst}
+use Rattle.std.specs.Prelude.{Option, Some, None, Err, bytes_eq, codes, if◌then◌else◌}
 use Rattle.std.specs.Str.{chars}
 use Rattle.sig_base.specs.Methods.{is_exclusive, canon_method_of, mac_method_of, digest_method_of}
 use Rattle.sig_base.specs.declared.method.CanonMethod.{CanonMethod}
@@ -11,17 +11,14 @@ use Rattle.xml_doc.specs.Rows.{RowOf}
 use Rattle.dsig_fields.specs.Fields.{algorithm, prefix_list, mac_refusal, filter_kind_in, digest_method, inner_prefixes, canonicalization_method, output_length, signature_method, bare_step, canonicalizing_step, xpath_step, filter_at, filters_step, step_by, transform, transforms, transforms_if, names_manifest, reference, info_fields}
 use Rattle.dsig_fields.specs.Lengths.{length_in}
 use Rattle.dsig_fields.specs.Prefixes.{names_in_list}
-use Rattle.dsig_fields.specs.Reading.{◌>>=◌, or_refusal, attribute, required, optional, optional_if, one_or_more, at_end, children, is_named}
+use Rattle.dsig_fields.specs.Reading.{or_refusal, attribute, required, optional, optional_if, one_or_more, at_end, children, is_named}
 use Rattle.dsig_fields.specs.Same.{Item, Octet, Aside, Inner, Pairwise, SameItem, SameItems, SaysTheSame, SameTo, SameElement, SameFilter, SameStep, SameReference, SameInfo, InfoSaysTheSame}
 use Rattle.dsig_fields.specs.Simple.{simple_text, simple_octets}
 use Rattle.dsig_fields.specs.declared.names.ElementName.{ElementName}
 use Rattle.dsig_fields.specs.declared.names.ElementName.TheVariants as names
-use Rattle.dsig_fields.specs.declared.refusal.FieldRefusal.{FieldRefusal}
 use Rattle.dsig_fields.specs.declared.refusal.FieldRefusal.TheVariants.{NoAlgorithm, UnknownMethod, Xslt, BadLength, BadFilter, NoUri, TooManyFilters, TooManyTransforms, TooManyReferences}
 use Rattle.dsig_fields.specs.declared.fields.Authentication.{Authentication}
 use Rattle.dsig_fields.specs.declared.fields.Canonicalization.{Canonicalization}
-use Rattle.dsig_fields.specs.declared.fields.Info.{Info}
-use Rattle.dsig_fields.specs.declared.fields.Reference.{Reference}
 use Rattle.dsig_fields.specs.declared.fields.Step.{Step}
 use Rattle.dsig_fields.specs.declared.fields.Step.TheVariants as step
 use Rattle.dsig_fields.proofs.SameChildren as read
@@ -228,6 +225,38 @@ module _ (rows others : List RowOf) where
     attributes = (deeper x z h 0).attributes;
     content = limit (λ (depth : ℕ). SameTo depth rows others) _ _ (λ depth. (deeper x z h depth).content);
   }
+
+-- ---- rows that are alike by a relation that holds of what stands in them too
+nearer_item : (R S : ℕ → ℕ → Type 0) → ((x z : ℕ) → R x z → S x z) → (i j : Item) → SameItem R i j → SameItem S i j
+nearer_item R S f (Octet c) (Octet d) h = h
+nearer_item R S f (Octet c) Aside h = h
+nearer_item R S f (Octet c) (Inner z) h = h
+nearer_item R S f Aside (Octet d) h = h
+nearer_item R S f Aside Aside h = h
+nearer_item R S f Aside (Inner z) h = h
+nearer_item R S f (Inner x) (Octet d) h = h
+nearer_item R S f (Inner x) Aside h = h
+nearer_item R S f (Inner x) (Inner z) h = f x z h
+
+nearer : (R S : ℕ → ℕ → Type 0) → ((x z : ℕ) → R x z → S x z) → (its jts : List Item) → SameItems R its jts → SameItems S its jts
+nearer R S f [] [] h = tt
+nearer R S f [] (j ∷ jts) h = h
+nearer R S f (i ∷ its) [] h = h
+nearer R S f (i ∷ its) (j ∷ jts) h = (nearer_item R S f i j h.0, nearer R S f its jts h.1)
+
+module _ (alike : ℕ → ℕ → Type 0) (rows others : List RowOf) (kept : (x z : ℕ) → alike x z → SaysTheSame alike rows others x z) where
+  same_to : (depth x z : ℕ) → alike x z → SameTo depth rows others x z
+  same_to zero x z h = tt
+  same_to (suc depth) x z h = let s = kept x z h in record {
+    kind = s.kind;
+    local_name = s.local_name;
+    uri = s.uri;
+    attributes = s.attributes;
+    content = nearer alike (SameTo depth rows others) (same_to depth) _ _ s.content;
+  }
+
+  pub alike_is_same : (x z : ℕ) → alike x z → SameElement rows x others z
+  alike_is_same x z h depth = same_to depth x z h
 
 pub info_says_the_same : InfoSaysTheSame
 info_says_the_same rows others x z f same e =

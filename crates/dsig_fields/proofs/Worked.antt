@@ -1,18 +1,22 @@
 -- The definitions at small documents, computed. All elements but one are in the namespace of signatures.
-use Rattle.std.proofs.Common.{◌≡◌, ℕ, false, List, [], ◌∷◌, refl}
+use Rattle.std.proofs.Common.{◌≡◌, ℕ, zero, suc, false, List, [], ◌∷◌, map, refl}
 use Rattle.std.specs.Prelude.{Some, None, Ok, Err, codes}
 use Rattle.std.specs.Str.{chars}
 use Rattle.sig_base.specs.declared.method.CanonMethod.TheVariants.{Exc}
+use Rattle.sig_base.specs.declared.method.DigestMethod.TheVariants.{Sha256}
 use Rattle.sig_base.specs.declared.method.MacMethod.TheVariants.{HmacSha1}
 use Rattle.xml_doc.specs.Rows.{RowOf}
 use Rattle.xml_doc.specs.declared.row.Kind.{Kind}
-use Rattle.xml_doc.specs.declared.row.Kind.TheVariants.{Root, Element, Attribute, Text, Comment}
+use Rattle.xml_doc.specs.declared.row.Kind.TheVariants.{Root, Element, Attribute, Text, Comment, Instruction}
 use Rattle.dsig_fields.specs.Fields.{inner_prefixes, canonicalization_method, signature_method, digest_method, reference, key_names, key_info}
 use Rattle.dsig_fields.specs.Lengths.{length_in, behind_space, number_behind}
 use Rattle.dsig_fields.specs.Names.{signature_namespace}
 use Rattle.sig_base.specs.Prefixes.{names_in}
-use Rattle.dsig_fields.specs.Reading.{passed, required, optional, at_end, many, one_or_more}
+use Rattle.dsig_fields.specs.Reading.{children, passed, required, optional, at_end, many, one_or_more}
+use Rattle.dsig_fields.specs.Same.{Item, Octet, Aside, Inner, items, SameItems, SameTo, SameElement}
 use Rattle.dsig_fields.specs.Simple.{joined}
+use Rattle.dsig_fields.specs.Verdicts.{differing}
+use Rattle.dsig_fields.specs.declared.fields.Reference.{Reference}
 use Rattle.dsig_fields.specs.declared.names.ElementName.TheVariants as element
 use Rattle.dsig_fields.specs.declared.refusal.FieldRefusal.TheVariants.{Missing, Extra, NoAlgorithm, UnknownMethod, NoUri, TooManyReferences}
 
@@ -118,3 +122,76 @@ first_name = refl
 no_name : key_info keys 3 ≡ Ok None
 unfolding key_info key_names
 no_name = refl
+
+-- a text that a comment splits says what the joined text says, and an instruction is told
+abbrev split : List RowOf
+split =
+    node Root 0 6 [] [] []
+    ∷ inner 0 6 (codes "DigestValue")
+    ∷ text 1 2 (codes "AQ")
+    ∷ node Comment 1 3 [] [] (codes "a comment")
+    ∷ text 1 4 (codes "ID")
+    ∷ node Instruction 1 5 (codes "target") [] []
+    ∷ inner 1 6 (codes "XPath")
+    ∷ []
+
+told : items split (children split 1) ≡ Octet 65 ∷ Octet 81 ∷ Octet 73 ∷ Octet 68 ∷ Aside ∷ Inner 6 ∷ []
+told = refl
+
+joined_text : items split (2 ∷ 3 ∷ 4 ∷ []) ≡ map Octet (codes "AQID")
+joined_text = refl
+
+-- an element says what it says
+itself_each : (alike : ℕ → ℕ → Type 0) → ((x : ℕ) → alike x x) → (its : List Item) → SameItems alike its its
+itself_each alike each [] = tt
+itself_each alike each (Octet c ∷ its) = (refl, itself_each alike each its)
+itself_each alike each (Aside ∷ its) = (tt, itself_each alike each its)
+itself_each alike each (Inner x ∷ its) = (each x, itself_each alike each its)
+
+itself_to : (rows : List RowOf) (depth x : ℕ) → SameTo depth rows rows x x
+itself_to rows zero x = tt
+itself_to rows (suc depth) x = record {
+  kind = refl;
+  local_name = refl;
+  uri = refl;
+  attributes = λ name. refl;
+  content = itself_each (SameTo depth rows rows) (itself_to rows depth) (items rows (children rows x));
+}
+
+pub itself : (rows : List RowOf) (x : ℕ) → SameElement rows x rows x
+itself rows x depth = itself_to rows depth x
+
+-- <DigestValue>AQ<!--a comment-->ID</DigestValue> and <DigestValue>AQID</DigestValue>
+abbrev commented : List RowOf
+commented =
+    node Root 0 4 [] [] []
+    ∷ inner 0 4 (codes "DigestValue")
+    ∷ text 1 2 (codes "AQ")
+    ∷ node Comment 1 3 [] [] (codes "a comment")
+    ∷ text 1 4 (codes "ID")
+    ∷ []
+
+abbrev whole : List RowOf
+whole =
+    node Root 0 2 [] [] []
+    ∷ inner 0 2 (codes "DigestValue")
+    ∷ text 1 2 (codes "AQID")
+    ∷ []
+
+comment_left_out : SameElement commented 1 whole 1
+comment_left_out zero = tt
+comment_left_out (suc depth) = record {
+  kind = refl;
+  local_name = refl;
+  uri = refl;
+  attributes = λ name. refl;
+  content = (refl, (refl, (refl, (refl, tt))));
+}
+
+-- the numbers of References without a view
+abbrev made : Reference
+made = record { row = 0; uri = []; manifest = false; steps = []; digest = Sha256; digest_row = 0; expected = [] }
+
+without_views : differing 1 (made ∷ made ∷ []) [] ≡ 1 ∷ 2 ∷ []
+unfolding differing
+without_views = refl

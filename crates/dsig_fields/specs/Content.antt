@@ -1,5 +1,5 @@
 -- The content of a Signature element, told without an order of reading: XML Signature 1.1, section 4.1.
-use Rattle.std.specs.Prelude.{◌≡◌, ◌↔◌, ℕ, true, not, List, [], ◌∷◌, ◌++◌, Option, Some, None, Result, Ok}
+use Rattle.std.specs.Prelude.{◌≡◌, ◌↔◌, ℕ, true, not, List, ◌∷◌, ◌++◌, Option, Ok}
 use Rattle.std.specs.List.{All, filter}
 use Rattle.std.specs.Option.{option_to_list}
 use Rattle.xml_doc.specs.Rows.{RowOf}

@@ -12,4 +12,5 @@ pub mod Fits
 pub mod Content
 pub mod Manifests
 pub mod Same
+pub mod Verdicts
 pub mod Code

@@ -1,8 +1,6 @@
--- SignedInfo elements that say the same, row numbers aside: XML Signature 1.1, sections 4.3 and 4.4. They may stand in two documents
--- of which one leaves out the comments of the other. A text that a comment splits is one text there, so texts are compared octet by
--- octet.
+-- SignedInfo elements that say the same, row numbers aside: XML Signature 1.1, section 4.4. They may stand in two documents, of which
+-- one leaves out the comments of the other. A text that a comment splits there is one text here, so texts are compared octet by octet.
 use Rattle.std.specs.Prelude.{◌≡◌, ℕ, zero, suc, List, [], ◌∷◌, ◌++◌, map, Ok}
-use Rattle.sig_base.specs.declared.method.CanonMethod.{CanonMethod}
 use Rattle.xml_doc.specs.Rows.{RowOf}
 use Rattle.xml_doc.specs.Shape.{row_at}
 use Rattle.xml_doc.specs.declared.row.Kind.{Kind}
@@ -16,7 +14,8 @@ use Rattle.dsig_fields.specs.declared.fields.Step.{Step}
 use Rattle.dsig_fields.specs.declared.fields.Step.TheVariants as step
 
 -- ---- what children say
--- what stands between two tags: an octet of a text, an instruction, or an element
+-- what stands between two tags: an octet of a text, an instruction, or an element by its row (a row that is no child in any document
+-- is told as an element is, and differs by its kind)
 pub data Item : Type 0 where
   Octet : ℕ → Item
   Aside : Item

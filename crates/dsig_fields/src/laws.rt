@@ -2,6 +2,7 @@
 
 ghost use Rattle.dsig_fields.specs.Content.{ReadExactly};
 ghost use Rattle.dsig_fields.specs.Same.{InfoSaysTheSame};
+ghost use Rattle.dsig_fields.specs.Verdicts.{VerdictSaysTheSame};
 
 /// The fields of an element are read exactly where its children, comments, instructions and white space aside, are SignedInfo,
 /// SignatureValue, an optional KeyInfo and any number of Objects, and these can be read (XML Signature 1.1 §4.1).
@@ -10,7 +11,13 @@ pub fn read_exactly()
 {}
 
 /// Where the fields of a SignedInfo can be read, those of an element that says the same can be read too, and are the same but for
-/// row numbers (XML Signature 1.1 §4.3, §4.4). Such an element may stand in another document, and without the comments.
+/// row numbers (XML Signature 1.1 §4.4). Such an element may stand in another document, and without the comments.
 pub fn info_says_the_same()
     ensures { InfoSaysTheSame }
+{}
+
+/// What core validation comes to by octets, views and a key is the same for a SignedInfo and an element that says the same (XML
+/// Signature 1.1 §3.2).
+pub fn verdict_says_the_same()
+    ensures { VerdictSaysTheSame }
 {}

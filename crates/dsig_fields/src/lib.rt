@@ -9,6 +9,8 @@ mod children;
 mod element;
 mod fields;
 mod info;
+#[cfg(test)]
+mod info_tests;
 mod key;
 mod key_info;
 pub mod laws;
