@@ -585,8 +585,8 @@ fn what_is_signed_is_valid(rt: HostRuntime) -> Result<(), Fail> {
     for (document, line) in [
         ("<doc>hi</doc>", "valid\nreference 1 octets 13\n"),
         (
-            "<?xml version=\"1.0\"?>\n<a b='cd'/>\n",
-            "valid\nreference 1 octets 14\n",
+            "<?xml version=\"1.0\" encoding=\"UTF-8\"?>\n<Order xmlns=\"urn:example:order\">\n  <Item sku=\"7\">Tea</Item>\n</Order>\n",
+            "valid\nreference 1 octets 69\n",
         ),
     ] {
         let template = made(&rt, alloc, document, "template d.xml --key k1")?;

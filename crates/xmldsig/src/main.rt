@@ -3,6 +3,8 @@
 
 mod ending;
 mod fault_line;
+#[cfg(test)]
+mod fault_tests;
 mod files;
 mod form;
 #[cfg(test)]
