@@ -29,6 +29,8 @@ mod testing;
 mod tests;
 mod top;
 mod validation;
+#[cfg(test)]
+mod wrapping_tests;
 
 use ending::Status;
 use job_words::WordsFault;
