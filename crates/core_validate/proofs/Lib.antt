@@ -1,7 +1,7 @@
 mod AskLaws
 mod Lists
 mod MeasureLaws
-mod OutcomeLaws
+pub mod OutcomeLaws
 mod ProgressLaws
 mod ReachedLaws
 mod SignatureLaws

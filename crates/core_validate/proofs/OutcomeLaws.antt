@@ -91,17 +91,17 @@ module _ (rows : List RowOf) (question : QuestionOf) where
       with_key key e = by_key ∙ ap keyed e
 
 -- ---- the outcome, and the names, by the check
-and_then_over : {A B C R : Type 0} (r : Result A R) (f : A → Result C R) (g : A → Result B R) (h : B → Result C R)
+pub and_then_over : {A B C R : Type 0} (r : Result A R) (f : A → Result C R) (g : A → Result B R) (h : B → Result C R)
     → ((x : A) → f x ≡ and_then (g x) h) → and_then r f ≡ and_then (and_then r g) h
 and_then_over (Ok x) f g h e = e x
 and_then_over (Err cause) f g h e = refl
 
-or_nothing_over : {A B C R : Type 0} (r : Result A R) (f : A → List C) (g : A → Result B R) (h : B → List C)
+pub or_nothing_over : {A B C R : Type 0} (r : Result A R) (f : A → List C) (g : A → Result B R) (h : B → List C)
     → ((x : A) → f x ≡ or_nothing (g x) h) → or_nothing r f ≡ or_nothing (and_then r g) h
 or_nothing_over (Ok x) f g h e = e x
 or_nothing_over (Err cause) f g h e = refl
 
-or_nothing_past : {A B C R S : Type 0} (outer : S → R) (r : Result A S) (f : A → List C) (g : A → Result B R) (h : B → List C)
+pub or_nothing_past : {A B C R S : Type 0} (outer : S → R) (r : Result A S) (f : A → List C) (g : A → Result B R) (h : B → List C)
     → ((x : A) → f x ≡ or_nothing (g x) h) → or_nothing r f ≡ or_nothing (and_then (with_cause outer r) g) h
 or_nothing_past outer (Ok x) f g h e = e x
 or_nothing_past outer (Err cause) f g h e = refl

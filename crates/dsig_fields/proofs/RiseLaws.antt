@@ -23,24 +23,24 @@ use Rattle.dsig_fields.specs.declared.fields.Fields.{Fields}
 use Rattle.dsig_fields.proofs.Steps.{then_fits, in_any_case, named_fits}
 
 -- the Reference is that of row y, and its DigestValue lies in it
-record IsIn (rows : List RowOf) (y : ℕ) (r : Reference) : Type 0 where
-  row : r.row ≡ y
-  below : y < r.digest_row
-  inside : r.digest_row ≤ (row_at rows y).last
-  named : is_named rows names.DigestValue r.digest_row ≡ true
+pub record IsIn (rows : List RowOf) (y : ℕ) (r : Reference) : Type 0 where
+  pub row : r.row ≡ y
+  pub below : y < r.digest_row
+  pub inside : r.digest_row ≤ (row_at rows y).last
+  pub named : is_named rows names.DigestValue r.digest_row ≡ true
 
 -- they stand one behind the other, from this row on, and their subtrees end at row `end` or before
-abbrev Follow : List RowOf → ℕ → ℕ → List Reference → Type 0
+abbrev pub Follow : List RowOf → ℕ → ℕ → List Reference → Type 0
 Follow rows from end [] = Unit {0}
 Follow rows from end (r ∷ rs) = (from ≤ r.row) × IsIn rows r.row r × ((row_at rows r.row).last ≤ end) × Follow rows ((row_at rows r.row).last + 1) end rs
 
 -- SignedInfo and SignatureValue are children of the Signature, this one behind all that is in that one
-record Rise (rows : List RowOf) (x : ℕ) (fields : Fields) : Type 0 where
-  signed_info : is_child rows x fields.signed_info ≡ true
-  value_row : is_child rows x fields.value_row ≡ true
-  named : is_named rows names.SignatureValue fields.value_row ≡ true
-  apart : (row_at rows fields.signed_info).last < fields.value_row
-  references : Follow rows (fields.signed_info + 1) (row_at rows fields.signed_info).last fields.references
+pub record Rise (rows : List RowOf) (x : ℕ) (fields : Fields) : Type 0 where
+  pub signed_info : is_child rows x fields.signed_info ≡ true
+  pub value_row : is_child rows x fields.value_row ≡ true
+  pub named : is_named rows names.SignatureValue fields.value_row ≡ true
+  pub apart : (row_at rows fields.signed_info).last < fields.value_row
+  pub references : Follow rows (fields.signed_info + 1) (row_at rows fields.signed_info).last fields.references
 
 module _ (rows : List RowOf) (shape : IsWellShaped rows) where
   -- children of x in document order, from this row on
@@ -63,7 +63,7 @@ module _ (rows : List RowOf) (shape : IsWellShaped rows) where
   kids_of : (x : ℕ) → Kids x 0 (children rows x)
   kids_of x = kids_range x 0 (length rows)
 
-  parent_is : (x y : ℕ) → is_child rows x y ≡ true → (row_at rows y).parent ≡ x
+  pub parent_is : (x y : ℕ) → is_child rows x y ≡ true → (row_at rows y).parent ≡ x
   parent_is x y e = eqb-true (row_at rows y).parent x (and_parts (nat_lt 0 y) (eqb (row_at rows y).parent x) (and_parts (nat_lt 0 y && eqb (row_at rows y).parent x) (not (is_field (row_at rows y).kind)) e).0).1
 
   child_behind_zero : (x y : ℕ) → is_child rows x y ≡ true → 0 < y
@@ -76,7 +76,7 @@ module _ (rows : List RowOf) (shape : IsWellShaped rows) where
   ]
 
   -- a child of x lies in it
-  child_in : (x y : ℕ) → 0 < x → is_child rows x y ≡ true → (x < y) × (y ≤ (row_at rows y).last) × ((row_at rows y).last ≤ (row_at rows x).last)
+  pub child_in : (x y : ℕ) → 0 < x → is_child rows x y ≡ true → (x < y) × (y ≤ (row_at rows y).last) × ((row_at rows y).last ≤ (row_at rows x).last)
   child_in x y pos e =
       let lt = child_within x y pos e in
       let up = parent_is x y e in
@@ -208,6 +208,9 @@ module _ (rows : List RowOf) (shape : IsWellShaped rows) where
       in_any_case Q (behind_all rows names.Object third.1) _ (λ left. in_any_case Q (at_end rows left) _ (λ nothing.
       record { signed_info = f.1; value_row = s.1; named = s.2; apart = omega (arith, s.0); references = refs }))))))))
 
+  pub rise : (x : ℕ) (fields : Fields) → 0 < x → fields_of rows x ≡ Ok fields → Rise rows x fields
+  rise x fields pos is = rw is at (rise_if x pos)
+
   -- the root is no Signature: one element alone is its child
   two_children : (y z : ℕ) → is_named rows names.SignedInfo y ≡ true → is_child rows 0 y ≡ true → is_named rows names.SignatureValue z ≡ true → is_child rows 0 z ≡ true → y + 1 ≤ z → ⊥
   two_children y z ny cy nz cz le =
@@ -256,7 +259,7 @@ pub record InOrder (fields : Fields) : Type 0 where
 module _ (rows : List RowOf) (shape : IsWellShaped rows) where
   in_order : (x : ℕ) (fields : Fields) → 0 < x → fields_of rows x ≡ Ok fields → InOrder fields
   in_order x fields pos is =
-      let r : Rise rows x fields = rw is at (rise_if rows shape x pos) in
+      let r = rise rows shape x fields pos is in
       record {
         digest_rows = digest_rows rows shape (fields.signed_info + 1) (fields.signed_info + 1) (row_at rows fields.signed_info).last fields.references (omega arith) r.references;
         value_behind = digests_end rows shape fields.value_row (fields.signed_info + 1) (row_at rows fields.signed_info).last fields.references r.apart r.references;

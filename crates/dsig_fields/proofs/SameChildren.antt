@@ -10,6 +10,7 @@ use Rattle.xml_doc.specs.Rows.{RowOf}
 use Rattle.xml_doc.specs.Shape.{row_at}
 use Rattle.xml_doc.specs.declared.row.Kind.{Kind}
 use Rattle.xml_doc.specs.declared.row.Kind.TheVariants as kinds
+use Rattle.dsig_fields.specs.Follows.{Follows}
 use Rattle.dsig_fields.specs.Names.{local_name, namespace_of}
 use Rattle.dsig_fields.specs.Reading.{◌>>=◌, or_refusal, passed, passes_over, taken, required, or_none, optional, optional_if, none_left, many, one_or_more, at_end, children, is_named, is_element_at, is_passed}
 use Rattle.dsig_fields.specs.Same.{Item, Octet, Aside, Inner, told_before, items, Pairwise, SameItems, SaysTheSame}
@@ -20,10 +21,6 @@ use Rattle.dsig_fields.specs.declared.refusal.FieldRefusal.TheVariants.{BadBase6
 use Rattle.dsig_fields.proofs.ManyLaws.{after, many_is}
 
 -- ---- outcomes of which the second is none where the first is one
-abbrev pub Follows : {A : Type 0} → (A → A → Type 0) → Result A FieldRefusal → Result A FieldRefusal → Type 0
-Follows {A} R (Ok a) other = (b : A) × (other ≡ Ok b) × R a b
-Follows R (Err refusal) other = Unit {0}
-
 abbrev pub Same : {A : Type 0} → A → A → Type 0
 Same a b = a ≡ b
 

@@ -9,6 +9,7 @@ use Rattle.sig_base.specs.declared.method.FilterKind.{FilterKind}
 use Rattle.sig_base.specs.declared.method.MacMethod.{MacMethod}
 use Rattle.xml_doc.specs.Rows.{RowOf}
 use Rattle.dsig_fields.specs.Fields.{algorithm, prefix_list, mac_refusal, filter_kind_in, digest_method, inner_prefixes, canonicalization_method, output_length, signature_method, bare_step, canonicalizing_step, xpath_step, filter_at, filters_step, step_by, transform, transforms, transforms_if, names_manifest, reference, info_fields}
+use Rattle.dsig_fields.specs.Follows.{Follows}
 use Rattle.dsig_fields.specs.Lengths.{length_in}
 use Rattle.dsig_fields.specs.Prefixes.{names_in_list}
 use Rattle.dsig_fields.specs.Reading.{or_refusal, attribute, required, optional, optional_if, one_or_more, at_end, children, is_named}
@@ -22,7 +23,7 @@ use Rattle.dsig_fields.specs.declared.fields.Canonicalization.{Canonicalization}
 use Rattle.dsig_fields.specs.declared.fields.Step.{Step}
 use Rattle.dsig_fields.specs.declared.fields.Step.TheVariants as step
 use Rattle.dsig_fields.proofs.SameChildren as read
-use Rattle.dsig_fields.proofs.SameChildren.{Follows, Same, then_follows, then_same, same_option}
+use Rattle.dsig_fields.proofs.SameChildren.{Same, then_follows, then_same, same_option}
 
 module _ (alike : ℕ → ℕ → Type 0) (rows others : List RowOf) (closed : (x z : ℕ) → alike x z → SaysTheSame alike rows others x z) where
   abbrev Rows : List ℕ → List ℕ → Type 0

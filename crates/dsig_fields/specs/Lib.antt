@@ -11,6 +11,7 @@ pub mod Holds
 pub mod Fits
 pub mod Content
 pub mod Manifests
+pub mod Follows
 pub mod Same
 pub mod Verdicts
 pub mod Code

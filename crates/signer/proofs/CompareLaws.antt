@@ -20,6 +20,7 @@ use Rattle.transforms.specs.Values.{origin_of}
 use Rattle.transforms.specs.Views.{target_in, view_of}
 use Rattle.transforms.specs.declared.refusal.RefRefusal.{RefRefusal}
 use Rattle.transforms.specs.declared.refusal.RefRefusal.TheVariants as reason
+use Rattle.transforms.proofs.AskLaws.{grew_all}
 use Rattle.core_validate.specs.Progress.{sources_of}
 use Rattle.signer.specs.Answers.{AsksAll, FaultCounts}
 use Rattle.signer.specs.Asked.{names_compared}
@@ -30,7 +31,6 @@ use Rattle.signer.specs.Code.Refusals.{IsOutside, Stops, filled_cause}
 use Rattle.signer.specs.Code.Sealing.{if_fits}
 use Rattle.signer.specs.Code.Views.{Shows, TellsEach}
 use Rattle.signer.specs.declared.refusal.SignRefusal.TheVariants as refusal
-use Rattle.signer.proofs.Refusing.{grew_all}
 use Rattle.signer.proofs.SigningLaws.{filled_stops}
 
 -- ---- a Reference that has no view

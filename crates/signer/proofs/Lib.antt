@@ -1,4 +1,3 @@
-pub mod Rising
 pub mod Valid
 pub mod Bare
 pub mod Octets

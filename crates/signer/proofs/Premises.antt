@@ -21,15 +21,14 @@ use Rattle.dsig_fields.specs.declared.fields.Fields.{Fields}
 use Rattle.dsig_fields.specs.declared.fields.Reference.{Reference}
 use Rattle.dsig_fields.specs.declared.names.ElementName.{ElementName}
 use Rattle.dsig_fields.specs.declared.names.ElementName.TheVariants.{DigestValue, Signature, SignatureValue}
+use Rattle.dsig_fields.proofs.RiseLaws.{Follow, child_in, parent_is, rise}
 use Rattle.dsig_fields.proofs.Steps.{named_fits}
 use Rattle.moved_fields.specs.Moved.{is_value}
 use Rattle.row_fills.specs.Fillings.{Filling, CanFill, CanFillAll, LiesInFront, filling}
-use Rattle.signer.specs.Code.Rising.{Rises}
 use Rattle.signer.specs.Outcome.{has_texts, not_text}
 use Rattle.signer.specs.Signed.{digest_fillings}
 use Rattle.signer.proofs.Bare.{base64_bare}
 use Rattle.signer.proofs.Octets.{hash_bytes}
-use Rattle.signer.proofs.Rising.{rise, parent_is, child_in}
 
 kind_is_element : (k : Kind) → is_element k ≡ true → k ≡ kind.Element
 kind_is_element kind.Root e = absurd (false≢true e)
@@ -102,16 +101,16 @@ module _ (rows : List RowOf) (shape : IsWellShaped rows) where
   can_from a b (f ∷ fs) le can = (omega (arith, le, can.0), can.1, can.2)
 
   -- all digests, and something behind them
-  can_digests : (from end : ℕ) (rs : List Reference) (views : List (List ℕ)) (last : Filling) → from ≤ end + 1 → Rises rows from end rs → list_all (has_texts rows) (map (λ (r : Reference). r.digest_row) rs) ≡ true
+  can_digests : (from end : ℕ) (rs : List Reference) (views : List (List ℕ)) (last : Filling) → from ≤ end + 1 → Follow rows from end rs → list_all (has_texts rows) (map (λ (r : Reference). r.digest_row) rs) ≡ true
       → CanFillAll rows (end + 1) (last ∷ []) → CanFillAll rows from (digest_fillings rs views ++ last ∷ [])
-  can_digests from end [] views last le rises texts can = can_from from (end + 1) (last ∷ []) le can
-  can_digests from end (r ∷ rs) [] last le rises texts can = can_from from (end + 1) (last ∷ []) le can
-  can_digests from end (r ∷ rs) (view ∷ views) last le rises texts can =
+  can_digests from end [] views last le follow texts can = can_from from (end + 1) (last ∷ []) le can
+  can_digests from end (r ∷ rs) [] last le follow texts can = can_from from (end + 1) (last ∷ []) le can
+  can_digests from end (r ∷ rs) (view ∷ views) last le follow texts can =
       let each = and_parts (has_texts rows r.digest_row) (list_all (has_texts rows) (map (λ (r : Reference). r.digest_row) rs)) texts in
-      let in_it = rises.1 in
+      let in_it = follow.1 in
       let next = (row_at rows r.row).last + 1 in
-      let more = can_digests next end rs views last (omega (arith, rises.2)) rises.3 each.1 can in (
-        omega (arith, rises.0, in_it.below),
+      let more = can_digests next end rs views last (omega (arith, follow.2)) follow.3 each.1 can in (
+        omega (arith, follow.0, in_it.below),
         can_fill DigestValue r.digest_row (hash r.digest view) in_it.named (digest_is_value r.digest_row in_it.named) each.0 (hash_bytes r.digest view),
         can_from (r.digest_row + 1) next (digest_fillings rs views ++ last ∷ []) (omega (arith, in_it.inside)) more,
       )
@@ -136,7 +135,7 @@ pub record Ready (rows : List RowOf) (x : ℕ) (fields : Fields) (views : List (
 
 pub ready : (rows : List RowOf) (x : ℕ) (fields : Fields) (views : List (List ℕ)) → IsWellShaped rows → is_named rows Signature x ≡ true → fields_of rows x ≡ Ok fields → not_text rows fields ≡ None → Ready rows x fields views
 ready rows x fields views shape named is none =
-    let r = rise rows x fields shape pos is in
+    let r = rise rows shape x fields pos is in
     let inside = child_in rows shape x fields.signed_info pos r.signed_info in
     let up = parent_is rows shape x fields.signed_info r.signed_info in
     let up' = parent_is rows shape x fields.value_row r.value_row in

@@ -17,12 +17,13 @@ use Rattle.c14n_methods.specs.Methods.{canonical_form}
 use Rattle.row_spans.specs.TextAlone.{is_plain_kind, HasTextAlone}
 use Rattle.row_spans.proofs.Read.{read_rows}
 use Rattle.dsig_fields.specs.Fields.{fields_of}
+use Rattle.dsig_fields.specs.Follows.{Follows}
 use Rattle.dsig_fields.specs.Holds.{is_long_enough, value_bits}
 use Rattle.dsig_fields.specs.Signatures.{nth_signature}
 use Rattle.dsig_fields.specs.declared.fields.Fields.{Fields}
 use Rattle.dsig_fields.specs.declared.fields.Reference.{Reference}
+use Rattle.dsig_fields.proofs.RiseLaws.{child_in}
 use Rattle.transforms.specs.Outcome.{canonical_signed_info}
-use Rattle.moved_fields.specs.Follows.{Follows}
 use Rattle.moved_fields.specs.Moved.{Pairwise, moved_by, FieldsMove, ReferenceMoves}
 use Rattle.moved_fields.proofs.Moves.{fields_follow}
 use Rattle.row_fills.specs.Fillings.{AllStand, CanFillAll, Filling, content_of, filled_again, filled_in, filling, first_of}
@@ -31,7 +32,6 @@ use Rattle.row_fills.proofs.Refilled.{all_refilled, other_refilled}
 use Rattle.row_fills.proofs.Together.{all_together}
 use Rattle.signer.specs.Outcome.{has_texts, not_text}
 use Rattle.signer.specs.Signed.{digest_filling, digest_fillings, signed, unsigned, value_under}
-use Rattle.signer.proofs.Rising.{child_in}
 use Rattle.signer.proofs.Valid.{found_named}
 
 -- ---- elements that have text alone have texts

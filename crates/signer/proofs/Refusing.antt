@@ -1,7 +1,7 @@
 -- What refusals of steps are worth to what is made of the steps: the refusal, what was asked for, and the count of faults.
-use Rattle.std.proofs.Common.{◌≡◌, ◌∙◌, ℕ, List, [], ◌++◌, length, take, drop, Result, Ok, Err, refl, ap, sym, subst, append_assoc, append-nil, arith}
-use Rattle.std.proofs.lemmas.List.{take-append-drop, take_all, take_at}
+use Rattle.std.proofs.Common.{◌≡◌, ◌∙◌, ℕ, List, [], ◌++◌, Result, Ok, Err, ap, sym, subst, append-nil}
 use Rattle.transforms.specs.Answers.{GrewTowards}
+use Rattle.transforms.proofs.AskLaws.{AsksRest, grew_all, grew_nothing, rest_ends, rest_grows}
 use Rattle.signer.specs.Answers.{AsksAll, FaultCounts, Gives, HasOwnCause, Refuses}
 use Rattle.signer.specs.Code.Refusals.{IsOutside, IsOwnStop, Stops}
 use Rattle.signer.specs.declared.refusal.SignRefusal.{SignRefusal}
@@ -122,53 +122,10 @@ outside_refuses refusal.FetchFailed one e = tt
 outside_refuses refusal.Memory one e = tt
 
 -- ---- what is asked for
--- of all names some are asked for, and these are left
-pub record AsksRest (before now all rest : List (List ℕ)) : Type 0 where
-  pub done : List (List ℕ)
-  pub asked : now ≡ before ++ done
-  pub names : done ++ rest ≡ all
-
-pub rest_begins : (before all : List (List ℕ)) → AsksRest before before all all
-rest_begins before all = record { done = []; asked = sym (append-nil before); names = refl }
-
-pub rest_goes : (before now new all rest names more : List (List ℕ)) → AsksRest before now all rest → rest ≡ names ++ more → new ≡ now ++ names → AsksRest before new all more
-rest_goes before now new all rest names more r e f = record {
-  done = r.done ++ names;
-  asked = f ∙ ap (λ (t : List (List ℕ)). t ++ names) r.asked ∙ append_assoc before r.done names;
-  names = append_assoc r.done names more ∙ ap (λ (t : List (List ℕ)). r.done ++ t) (sym e) ∙ r.names;
-}
-
--- the last names are asked for
-pub rest_ends : (before now new all rest : List (List ℕ)) → AsksRest before now all rest → new ≡ now ++ rest → new ≡ before ++ all
-rest_ends before now new all rest r f =
-    f ∙ ap (λ (t : List (List ℕ)). t ++ rest) r.asked ∙ append_assoc before r.done rest ∙ ap (λ (t : List (List ℕ)). before ++ t) r.names
-
--- no name is left
-pub ended : (before now all rest : List (List ℕ)) → rest ≡ [] → AsksRest before now all rest → now ≡ before ++ all
-ended before now all rest e r = rest_ends before now now all rest r (sym (ap (λ (t : List (List ℕ)). now ++ t) e ∙ append-nil now))
-
--- or a first part of them
-pub rest_grows : (before now new all rest names more : List (List ℕ)) → AsksRest before now all rest → rest ≡ names ++ more → GrewTowards names now new → GrewTowards all before new
-rest_grows before now new all rest names more r e f =
-    let front = r.done ++ take f.0 names in
-    let split : all ≡ front ++ (drop f.0 names ++ more) =
-    sym r.names ∙ ap (λ (t : List (List ℕ)). r.done ++ t) e
-    ∙ ap (λ (t : List (List ℕ)). r.done ++ (t ++ more)) (sym (take-append-drop f.0 names))
-    ∙ ap (λ (t : List (List ℕ)). r.done ++ t) (append_assoc (take f.0 names) (drop f.0 names) more)
-    ∙ sym (append_assoc r.done (take f.0 names) (drop f.0 names ++ more)) in
-    let part : take (length front) all ≡ front = ap (take (length front)) split ∙ take_at front (drop f.0 names ++ more) (length front) refl in
-    (length front, f.1 ∙ ap (λ (t : List (List ℕ)). t ++ take f.0 names) r.asked ∙ append_assoc before r.done (take f.0 names) ∙ ap (λ (t : List (List ℕ)). before ++ t) (sym part))
-
-pub grew_all : (names old new : List (List ℕ)) → new ≡ old ++ names → GrewTowards names old new
-grew_all names old new e = (length names, e ∙ ap (λ (t : List (List ℕ)). old ++ t) (sym (take_all (length names) names (omega arith))))
-
-pub grew_nothing : (names old : List (List ℕ)) → GrewTowards names old old
-grew_nothing names old = (0, sym (append-nil old))
-
 rest_all : (before now new all rest : List (List ℕ)) → AsksRest before now all rest → GrewTowards rest now new → GrewTowards all before new
 rest_all before now new all rest r g = rest_grows before now new all rest rest [] r (sym (append-nil rest)) g
 
-nothing_more : (names old : List (List ℕ)) → names ≡ [] → old ≡ old ++ names
+pub nothing_more : (names old : List (List ℕ)) → names ≡ [] → old ≡ old ++ names
 nothing_more names old e = sym (ap (λ (t : List (List ℕ)). old ++ t) e ∙ append-nil old)
 
 -- a refusal before the folder is asked

@@ -1,5 +1,5 @@
 -- What each step of signing makes of the outcome, and of the names that are asked for.
-use Rattle.std.proofs.Common.{◌≡◌, ◌∙◌, ℕ, ◌<◌, Bool, true, false, List, [], ◌++◌, length, Option, Some, None, Result, Ok, Err, refl, ap, sym, subst, append-nil, inl, inr}
+use Rattle.std.proofs.Common.{◌≡◌, ◌∙◌, ℕ, ◌<◌, Bool, true, false, List, [], ◌++◌, length, Option, Some, None, Result, Ok, Err, refl, ap, subst, inl, inr}
 use Rattle.std.specs.Prelude.{◌⊎◌, IfOk, if◌then◌else◌}
 use Rattle.sig_base.specs.Outcomes.{and_then, with_cause}
 use Rattle.sig_outside.specs.Told.{Held}
@@ -22,8 +22,10 @@ use Rattle.dsig_fields.specs.declared.key.KeyChoice.TheVariants as choice
 use Rattle.dsig_fields.specs.declared.refusal.FieldRefusal.{FieldRefusal}
 use Rattle.dsig_fields.specs.declared.refusal.FieldRefusal.TheVariants as field
 use Rattle.transforms.specs.Asked.{names_behind, or_nothing}
+use Rattle.transforms.proofs.AskLaws.{grew_nothing}
 use Rattle.core_validate.specs.Answers.{HasNoFile}
 use Rattle.core_validate.specs.Progress.{sources_of}
+use Rattle.core_validate.proofs.OutcomeLaws.{and_then_over, or_nothing_over, or_nothing_past}
 use Rattle.signer.specs.Answers.{AsksAll, Gives, TellsTemplate}
 use Rattle.signer.specs.Asked.{names_again, names_asked, names_of_fields, names_under_key}
 use Rattle.signer.specs.Laws.{IsValid}
@@ -39,24 +41,9 @@ use Rattle.signer.specs.declared.refusal.SignRefusal.{SignRefusal}
 use Rattle.signer.specs.declared.refusal.SignRefusal.TheVariants as refusal
 use Rattle.signer.specs.declared.sealing.Seal.{Seal}
 use Rattle.signer.proofs.Made.{signed_is_valid}
-use Rattle.signer.proofs.Refusing.{grew_nothing}
+use Rattle.signer.proofs.Refusing.{nothing_more}
 
 -- ---- steps one behind the other
-and_then_over : {A B C R : Type 0} (r : Result A R) (f : A → Result C R) (g : A → Result B R) (h : B → Result C R)
-    → ((x : A) → f x ≡ and_then (g x) h) → and_then r f ≡ and_then (and_then r g) h
-and_then_over (Ok x) f g h e = e x
-and_then_over (Err cause) f g h e = refl
-
-or_nothing_over : {A B C R : Type 0} (r : Result A R) (f : A → List C) (g : A → Result B R) (h : B → List C)
-    → ((x : A) → f x ≡ or_nothing (g x) h) → or_nothing r f ≡ or_nothing (and_then r g) h
-or_nothing_over (Ok x) f g h e = e x
-or_nothing_over (Err cause) f g h e = refl
-
-or_nothing_past : {A B C R S : Type 0} (outer : S → R) (r : Result A S) (f : A → List C) (g : A → Result B R) (h : B → List C)
-    → ((x : A) → f x ≡ or_nothing (g x) h) → or_nothing r f ≡ or_nothing (and_then (with_cause outer r) g) h
-or_nothing_past outer (Ok x) f g h e = e x
-or_nothing_past outer (Err cause) f g h e = refl
-
 given : {A B R : Type 0} (r : Result A R) (f : A → Result B R) (y : B) → and_then r f ≡ Ok y → (x : A) × (r ≡ Ok x) × (f x ≡ Ok y)
 given (Ok x) f y e = (x, refl, e)
 given (Err cause) f y e = absurd cc
@@ -89,27 +76,24 @@ module _ {B : Type 0} (outcome_read : Result (List RowOf) ReadRefusal) (f : List
 
 -- where nothing is read nothing is asked for
 module _ (outcome_read : Result (List RowOf) ReadRefusal) (names old : List (List ℕ)) where
-  nothing_more : names ≡ [] → old ≡ old ++ names
-  nothing_more e = sym (ap (λ (t : List (List ℕ)). old ++ t) e ∙ append-nil old)
-
   pub read_asks : (why : ReadRefusal) → reading.Refuses why outcome_read → (outcome_read ≡ Err why → names ≡ []) → AsksAll {A = Unit {0}} (Err (read_cause why)) names old old
-  read_asks read.TooLarge e f = nothing_more (f e)
-  read_asks read.Encoding e f = nothing_more (f e)
-  read_asks read.DocType e f = nothing_more (f e)
-  read_asks read.NotWellFormed e f = nothing_more (f e)
-  read_asks read.Namespaces e f = nothing_more (f e)
-  read_asks read.TooDeep e f = nothing_more (f e)
-  read_asks read.TooManyRows e f = nothing_more (f e)
+  read_asks read.TooLarge e f = nothing_more names old (f e)
+  read_asks read.Encoding e f = nothing_more names old (f e)
+  read_asks read.DocType e f = nothing_more names old (f e)
+  read_asks read.NotWellFormed e f = nothing_more names old (f e)
+  read_asks read.Namespaces e f = nothing_more names old (f e)
+  read_asks read.TooDeep e f = nothing_more names old (f e)
+  read_asks read.TooManyRows e f = nothing_more names old (f e)
   read_asks read.Memory e f = grew_nothing names old
 
   pub filled_asks : (why : ReadRefusal) → reading.Refuses why outcome_read → (outcome_read ≡ Err why → names ≡ []) → AsksAll {A = Unit {0}} (Err (filled_cause why)) names old old
-  filled_asks read.TooLarge e f = nothing_more (f e)
-  filled_asks read.Encoding e f = nothing_more (f e)
-  filled_asks read.DocType e f = nothing_more (f e)
-  filled_asks read.NotWellFormed e f = nothing_more (f e)
-  filled_asks read.Namespaces e f = nothing_more (f e)
-  filled_asks read.TooDeep e f = nothing_more (f e)
-  filled_asks read.TooManyRows e f = nothing_more (f e)
+  filled_asks read.TooLarge e f = nothing_more names old (f e)
+  filled_asks read.Encoding e f = nothing_more names old (f e)
+  filled_asks read.DocType e f = nothing_more names old (f e)
+  filled_asks read.NotWellFormed e f = nothing_more names old (f e)
+  filled_asks read.Namespaces e f = nothing_more names old (f e)
+  filled_asks read.TooDeep e f = nothing_more names old (f e)
+  filled_asks read.TooManyRows e f = nothing_more names old (f e)
   filled_asks read.Memory e f = grew_nothing names old
 
 -- ---- the template

@@ -18,10 +18,10 @@ use Rattle.row_fills.proofs.InOrder.{in_order}
 use Rattle.row_fills.proofs.Info.{can_front, spelled_once}
 use Rattle.row_fills.proofs.Together.{all_together}
 use Rattle.moved_fields.specs.Moved.{Pairwise, moved_by, ReferenceMoves, FieldsMove}
-use Rattle.moved_fields.specs.Follows.{Follows}
 use Rattle.moved_fields.proofs.Moves.{fields_follow}
 use Rattle.row_fills.specs.Fillings.{content_of}
 use Rattle.dsig_fields.specs.Fields.{fields_of}
+use Rattle.dsig_fields.specs.Follows.{Follows}
 use Rattle.dsig_fields.specs.declared.fields.Fields.{Fields}
 use Rattle.dsig_fields.specs.declared.fields.Reference.{Reference}
 use Rattle.dsig_fields.specs.declared.refusal.FieldRefusal.{FieldRefusal}

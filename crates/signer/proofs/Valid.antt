@@ -13,6 +13,7 @@ use Rattle.node_sets.specs.Members.{in_subtree}
 use Rattle.c14n_text.specs.Namespaces.{inclusive, eleven, exclusive}
 use Rattle.c14n_methods.specs.Methods.{canonical_form}
 use Rattle.dsig_fields.specs.Fields.{fields_of}
+use Rattle.dsig_fields.specs.Follows.{Follows}
 use Rattle.dsig_fields.specs.Holds.{digest_holds, signature_holds, is_long_enough, is_mac_value, value_bits}
 use Rattle.dsig_fields.specs.Reading.{is_named}
 use Rattle.dsig_fields.specs.Signatures.{nth_signature, signatures}
@@ -22,7 +23,6 @@ use Rattle.dsig_fields.specs.declared.names.ElementName.TheVariants.{Signature}
 use Rattle.transforms.specs.Outcome.{canonical_signed_info}
 use Rattle.core_validate.specs.Laws.{references_hold}
 use Rattle.moved_fields.specs.Moved.{Pairwise, moved_by, ReferenceMoves, FieldsMove}
-use Rattle.moved_fields.specs.Follows.{Follows}
 use Rattle.moved_fields.proofs.Moves.{fields_follow}
 use Rattle.xml_read.specs.Spelled.{Spells}
 use Rattle.row_fills.specs.Fillings.{Filling, filling, filled_in, content_of, CanFillAll, LiesInFront}

@@ -19,6 +19,7 @@ use Rattle.transforms.specs.Values.{origin_of}
 use Rattle.transforms.specs.Views.{target_in, view_of}
 use Rattle.transforms.specs.declared.refusal.RefRefusal.{RefRefusal}
 use Rattle.transforms.specs.declared.refusal.RefRefusal.TheVariants as reason
+use Rattle.transforms.proofs.AskLaws.{grew_all}
 use Rattle.core_validate.specs.Answers.{IsNoFile}
 use Rattle.signer.specs.Answers.{AsksAll, FaultCounts, Gives, Refuses}
 use Rattle.signer.specs.Outcome.{views_from}
@@ -27,7 +28,6 @@ use Rattle.signer.specs.Code.Views.{Limits, Shows, TellsEach, nothing_gathered, 
 use Rattle.signer.specs.declared.refusal.SignRefusal.{SignRefusal}
 use Rattle.signer.specs.declared.refusal.SignRefusal.TheVariants as refusal
 use Rattle.signer.specs.declared.views.Gathered.{Gathered}
-use Rattle.signer.proofs.Refusing.{grew_all}
 
 -- ---- members
 -- what holds of all members holds of that one

@@ -1,5 +1,4 @@
 -- What only the code's own contracts and the proofs speak of: no public contract says it.
-pub mod Rising
 pub mod Refusals
 pub mod Reading
 pub mod Views

@@ -1,3 +1,4 @@
+pub mod AskLaws
 pub mod Limits
 pub mod Stops
 pub mod StepLaws

@@ -11,10 +11,11 @@ use Rattle.transforms.specs.Answers.{names_of}
 use Rattle.transforms.specs.Asked.{names_behind}
 use Rattle.transforms.specs.Outcome.{references_report}
 use Rattle.transforms.specs.Views.{target_in}
+use Rattle.transforms.proofs.AskLaws.{ended, rest_begins, rest_goes}
 use Rattle.core_validate.specs.Progress.{sources_of, with_reference}
 use Rattle.core_validate.specs.Reached.{IsHad}
 use Rattle.core_validate.specs.declared.progress.Progress.{Progress}
-use Rattle.core_validate.proofs.AskLaws.{asked_refused, counted_on, ended, own_on, rest_begins, rest_goes}
+use Rattle.core_validate.proofs.AskLaws.{asked_refused, counted_on, own_on}
 use Rattle.core_validate.proofs.Lists.{all_at, none_left, passed_at}
 use Rattle.core_validate.proofs.ProgressLaws.{IsWithin, advanced, behind, behind_all, behind_nothing, behind_one, behind_refused, names_last, names_none, names_one, names_split, named, next_of, nothing_within, refuses_on}
 use Rattle.core_validate.proofs.ReachedLaws.{few_views, reported, staged, tells_at}

@@ -7,7 +7,7 @@ use Rattle.transforms.specs.Outcome.{references_report}
 use Rattle.core_validate.specs.Code.Answers.{TellsEach}
 use Rattle.core_validate.specs.Progress.{sources_of}
 use Rattle.core_validate.specs.Reached.{IsHad}
-use Rattle.core_validate.proofs.AskLaws.{AsksRest}
+use Rattle.transforms.proofs.AskLaws.{AsksRest}
 use Rattle.core_validate.proofs.ProgressLaws.{IsWithin, behind}
 use Rattle.core_validate.proofs.progress.validate_references.Given as goal
 

@@ -11,7 +11,7 @@ use Rattle.manifests.specs.Answers.{HasOwnKind}
 use Rattle.manifests.specs.Manifests.{line, names_of_entries, names_of_entry}
 use Rattle.manifests.specs.declared.lines.ManifestKind.{ManifestKind}
 use Rattle.manifests.specs.declared.lines.ManifestLine.{ManifestLine}
-use Rattle.manifests.proofs.AskLaws.{rest_begins, rest_ended, rest_goes, rest_grows, rest_part}
+use Rattle.transforms.proofs.AskLaws.{ended, rest_begins, rest_goes, rest_grows, rest_part}
 use Rattle.manifests.proofs.LineLaws.{left_lines, line_goes, lines_end, no_line, one_line, tells_at, tells_target}
 use Rattle.manifests.proofs.Lists.{all_at, flat_at}
 use Rattle.manifests.proofs.check.check_entries.Goals as goal
@@ -88,5 +88,4 @@ returns-clause-lines g c = λ files tells.
 
 pub returns-clause-asked : goal.returns-clause-asked
 returns-clause-asked g c = λ files told.
-    rest_ended _ _ _ _ (c.loop-entry.invariant.asked files told)
-    (ap (names_of_entries c.args.place.now) (drop_none c.args.entries.now c.loop-entry.number c.in_default.ensures))
+    ended _ _ _ _ (ap (names_of_entries c.args.place.now) (drop_none c.args.entries.now c.loop-entry.number c.in_default.ensures)) (c.loop-entry.invariant.asked files told)

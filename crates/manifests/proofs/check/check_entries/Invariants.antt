@@ -5,7 +5,7 @@ use Rattle.sig_outside.specs.Told.{Held}
 use Rattle.transforms.specs.Values.{origin_of}
 use Rattle.manifests.specs.Answers.{HasOwnKind, TellsNames}
 use Rattle.manifests.specs.Manifests as spec
-use Rattle.manifests.proofs.AskLaws.{AsksRest}
+use Rattle.transforms.proofs.AskLaws.{AsksRest}
 use Rattle.manifests.proofs.LineLaws.{left_lines}
 use Rattle.manifests.proofs.check.check_entries.Given as goal
 

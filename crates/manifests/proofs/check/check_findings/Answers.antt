@@ -8,7 +8,7 @@ use Rattle.manifests.specs.Answers.{HasOwnKind}
 use Rattle.manifests.specs.Code.Findings.{FindingFits}
 use Rattle.manifests.specs.Manifests.{lines_of_finding, lines_of_findings, names_of_finding, names_of_findings}
 use Rattle.manifests.specs.declared.lines.ManifestLine.{ManifestLine}
-use Rattle.manifests.proofs.AskLaws.{rest_begins, rest_ended, rest_goes, rest_grows}
+use Rattle.transforms.proofs.AskLaws.{ended, rest_begins, rest_goes, rest_grows}
 use Rattle.manifests.proofs.LineLaws.{lines_end, lines_go, tells_at}
 use Rattle.manifests.proofs.Lists.{all_at, flat_at}
 use Rattle.manifests.proofs.check.check_findings.Goals as goal
@@ -74,5 +74,4 @@ returns-clause-lines g c = λ files tells.
 
 pub returns-clause-asked : goal.returns-clause-asked
 returns-clause-asked g c = λ files told.
-    rest_ended _ _ _ _ (c.loop-finding.invariant.asked files told)
-    (ap (names_of_findings c.args.place.now) (drop_none c.args.findings.now c.loop-finding.k c.in_default.ensures))
+    ended _ _ _ _ (ap (names_of_findings c.args.place.now) (drop_none c.args.findings.now c.loop-finding.k c.in_default.ensures)) (c.loop-finding.invariant.asked files told)

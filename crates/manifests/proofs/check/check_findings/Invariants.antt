@@ -4,7 +4,7 @@ use Rattle.std.specs.Option.{ForSome}
 use Rattle.sig_outside.specs.Told.{Held}
 use Rattle.manifests.specs.Answers.{HasOwnKind, TellsNames}
 use Rattle.manifests.specs.Manifests as spec
-use Rattle.manifests.proofs.AskLaws.{AsksRest}
+use Rattle.transforms.proofs.AskLaws.{AsksRest}
 use Rattle.manifests.proofs.check.check_findings.Given as goal
 
 -- the same of what was found

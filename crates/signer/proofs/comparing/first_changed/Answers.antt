@@ -3,10 +3,11 @@ use Rattle.std.proofs.lemmas.Result.{err_from_is_err_and}
 use Rattle.dsig_fields.specs.Fits.{ReferenceFits}
 use Rattle.transforms.specs.Answers.{names_of}
 use Rattle.transforms.specs.Views.{target_in}
+use Rattle.transforms.proofs.AskLaws.{ended, rest_ends, rest_goes}
 use Rattle.core_validate.specs.Progress.{sources_of}
 use Rattle.signer.specs.Asked.{names_compared}
 use Rattle.signer.specs.Outcome.{is_view}
-use Rattle.signer.proofs.Refusing.{asked_outside, ended, rest_ends, rest_goes}
+use Rattle.signer.proofs.Refusing.{asked_outside}
 use Rattle.signer.proofs.CompareLaws.{changed_here, changed_none, compared_none, had, more_names, names_here, names_next, names_split, same_next}
 use Rattle.signer.proofs.ViewLaws.{all_at, tells_at}
 use Rattle.signer.proofs.comparing.first_changed.Goals as goal

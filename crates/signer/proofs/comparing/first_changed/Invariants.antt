@@ -1,11 +1,11 @@
 use Rattle.std.proofs.Common.{◌≡◌, ◌≤◌, ◌+◌, ◌-◌, length, drop}
 use Rattle.std.specs.Option.{ForSome}
 use Rattle.sig_outside.specs.Told.{Held}
+use Rattle.transforms.proofs.AskLaws.{AsksRest}
 use Rattle.core_validate.specs.Progress.{sources_of}
 use Rattle.signer.specs.Asked.{names_compared}
 use Rattle.signer.specs.Code.Views.{TellsEach}
 use Rattle.signer.specs.Outcome.{first_changed}
-use Rattle.signer.proofs.Refusing.{AsksRest}
 use Rattle.signer.proofs.comparing.first_changed.Given as goal
 
 -- the References that are left decide, and ask for the names that are left

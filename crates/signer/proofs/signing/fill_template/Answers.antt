@@ -1,10 +1,11 @@
 use Rattle.std.proofs.Common.{◌∙◌, ℕ, List, Ok, Err, append-nil, inl}
 use Rattle.transforms.specs.Asked.{names_behind}
+use Rattle.transforms.proofs.AskLaws.{rest_begins, rest_goes}
 use Rattle.core_validate.specs.Progress.{sources_of}
 use Rattle.signer.specs.Outcome.{views_from}
 use Rattle.signer.specs.Code.Reading.{seen_template}
 use Rattle.signer.specs.Code.Signing.{names_behind_views, names_of_template, outcome_behind, template_outcome}
-use Rattle.signer.proofs.Refusing.{asked_refused, asked_rest, gives_by, refuses_on, rest_begins, rest_goes}
+use Rattle.signer.proofs.Refusing.{asked_refused, asked_rest, gives_by, refuses_on}
 use Rattle.signer.proofs.SigningLaws.{template_at, template_names, template_names_at}
 use Rattle.signer.proofs.signing.fill_template.Goals as goal
 

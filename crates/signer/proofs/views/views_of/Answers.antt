@@ -5,10 +5,11 @@ use Rattle.sig_base.proofs.ListLemmas.{drop-at, drop_none}
 use Rattle.transforms.specs.Answers.{names_of}
 use Rattle.transforms.specs.Asked.{names_behind}
 use Rattle.transforms.specs.Views.{target_in}
+use Rattle.transforms.proofs.AskLaws.{ended, rest_goes}
 use Rattle.core_validate.specs.Progress.{sources_of}
 use Rattle.signer.specs.Code.Views.{with_reference}
 use Rattle.signer.specs.Outcome.{views_from}
-use Rattle.signer.proofs.Refusing.{asked_refused, refuses_on, ended, rest_goes}
+use Rattle.signer.proofs.Refusing.{asked_refused, refuses_on}
 use Rattle.signer.proofs.ViewLaws.{behind, behind_all, behind_one, behind_refused, named, names_last, names_none, names_one, names_split, next_of, tells_at}
 use Rattle.signer.proofs.views.views_of.Goals as goal
 

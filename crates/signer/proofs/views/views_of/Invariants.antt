@@ -2,10 +2,10 @@ use Rattle.std.proofs.Common.{◌≡◌, ◌≤◌, ◌+◌, ◌-◌, length, dr
 use Rattle.std.specs.Option.{ForSome}
 use Rattle.sig_outside.specs.Told.{Held}
 use Rattle.transforms.specs.Asked.{names_behind}
+use Rattle.transforms.proofs.AskLaws.{AsksRest}
 use Rattle.core_validate.specs.Progress.{sources_of}
 use Rattle.signer.specs.Code.Views.{TellsEach}
 use Rattle.signer.specs.Outcome.{views_from}
-use Rattle.signer.proofs.Refusing.{AsksRest}
 use Rattle.signer.proofs.ViewLaws.{behind}
 use Rattle.signer.proofs.views.views_of.Given as goal
 
