@@ -1,26 +1,21 @@
 -- The value of an attribute that is in no namespace: declarations and attributes of the namespace of `xml`, which a canonical form
 -- may have besides, are not looked at.
-use Rattle.std.proofs.Common.{◌≡◌, ◌≢◌, ℕ, zero, suc, ◌+◌, ◌-◌, ◌<◌, ◌≤◌, Bool, true, false, cond, not, ◌&&◌, ◌||◌, ◌⊎◌, eqb, inl, inr, List, [], ◌∷◌, ◌++◌, length, map, Option, Some, None, option_map, refl, sym, ap, ap₂, subst, ◌∙◌, append_assoc, length-append, arith}
-use Rattle.std.specs.Prelude.{codes, if◌then◌else◌}
-use Rattle.std.specs.List.{filter, find, list_any, range_with_len}
+use Rattle.std.proofs.Common.{◌≡◌, ℕ, ◌+◌, ◌<◌, ◌≤◌, Bool, true, false, cond, not, ◌&&◌, ◌||◌, eqb, inl, inr, List, [], ◌∷◌, ◌++◌, length, map, Option, Some, None, option_map, refl, sym, ap, ap₂, ◌∙◌, append_assoc, length-append, arith}
+use Rattle.std.specs.List.{find, list_any}
 use Rattle.std.specs.Str.{bytes_eq}
 use Rattle.std.specs.BTreeMap.{insert_entry, is_at}
 use Rattle.std.specs.Map.{lookup}
-use Rattle.std.specs.Cmp.Lexicographic.{slice_cmp}
-use Rattle.std.specs.Ordering.{is_eq, nat_cmp, ordering_then}
+use Rattle.std.specs.Ordering.{is_eq, ordering_then}
 use Rattle.std.specs.declared.cmp.Ordering.{Ordering}
 use Rattle.std.specs.declared.cmp.Ordering.TheVariants.{Less, Equal, Greater}
-use Rattle.std.proofs.lemmas.Bool.{cases_lt, cases_eq, false≢true, and_from, and_parts, eq-eqb, eqb-true}
-use Rattle.std.proofs.lemmas.Cmp.{nat_list_cmp_total, then_total, on_total, tied_itself}
+use Rattle.std.proofs.lemmas.Bool.{cases_lt, false≢true, and_from, and_parts, eq-eqb, eqb-true}
+use Rattle.std.proofs.lemmas.Cmp.{nat_list_cmp_total, tied_itself}
 use Rattle.std.proofs.lemmas.Slice.Eq.{bytes_eq-Decides}
-use Rattle.xml_doc.specs.Fields.{attribute_rows, is_attribute_of}
-use Rattle.xml_doc.specs.Kinds.{is_attribute, is_field}
+use Rattle.xml_doc.specs.Fields.{is_attribute_of}
+use Rattle.xml_doc.specs.Kinds.{is_attribute}
 use Rattle.xml_doc.specs.Rows.{RowOf}
 use Rattle.xml_doc.specs.Searches.{passing, NonePass}
 use Rattle.xml_doc.specs.Shape.{row_at, IsWellShaped}
-use Rattle.xml_doc.specs.declared.row.Kind.{Kind}
-use Rattle.xml_doc.specs.declared.row.Kind.TheVariants as kinds
-use Rattle.xml_names.specs.Scopes.{xml_name}
 use Rattle.xml_resolve.specs.Resolve.{NamedValue, have_same_name, have_own_names}
 use Rattle.xml_resolve.specs.Rows.{Ordered, named_entry, in_order}
 use Rattle.xml_resolve.specs.Rows as made
@@ -33,7 +28,7 @@ use Rattle.xml_doc.proofs.FieldLemmas.{field_of_attribute}
 use Rattle.xml_doc.proofs.Numbers.{passing-first}
 use Rattle.xml_doc.proofs.SearchLemmas.{none_between, skip_front, skip_back}
 use Rattle.c14n_text.specs.Code.Rows.{last_of}
-use Rattle.signed_info.proofs.Standing.{Stands, ElementAt, own, fields, first, below, after, rest, most, split, most_long, inner_stands, last_is, within, no_fields}
+use Rattle.signed_info.proofs.Standing.{ElementAt, own, fields, first, below, rest, most, split, most_long, inner_stands, last_is, within, no_fields}
 use Rattle.xml_resolve.proofs.OrderLaws.{found_insert, key_total}
 use Rattle.xml_resolve.proofs.ResolveLaws.{key_same}
 use Rattle.dsig_fields.specs.Reading.{is_attribute_named, attribute}
@@ -221,8 +216,13 @@ module _ (rows : List RowOf) (z : ℕ) where
     none_before : NonePass (is_attribute_of rows z) 1 from
     none_before j ge less = never j (λ e.
         let p = parts j e in
+        let size = length_namespaces (z + 1) z bindings in
+        let each = no_attributes (z + 1) z bindings in
         elim (cases_lt z j) [
-          | inl later ↦ false≢true (sym (each_at (λ r. is_attribute r.kind ≡ false) names rows front (made.attribute_rows z from values ++ far) (z + 1) j (no_attributes (z + 1) z bindings) cut front_long (omega (arith, later)) (omega (arith, less, length_namespaces (z + 1) z bindings))) ∙ p.0)
+          | inl later ↦
+              let is = each_at (λ r. is_attribute r.kind ≡ false) names rows front (made.attribute_rows z from values ++ far) (z + 1) j each cut front_long
+              (omega (arith, later)) (omega (arith, less, size)) in
+              false≢true (sym is ∙ p.0)
           | inr le ↦ let up = w.nesting.parent_before j ge (omega (arith, le, there)) in absurd (omega (arith, up, p.1, le))
         ])
 
@@ -233,10 +233,15 @@ module _ (rows : List RowOf) (z : ℕ) where
         let nested = w.nesting.last_within j less in
         let same : (row_at rows (row_at rows j).parent).last ≡ (row_at rows z).last = ap (last_of rows) p.1 in
         let last = last_is rows z at.parent at.bindings tag inner at.until at.rest at.stands in
-        false≢true (sym (no_fields rows w inner to z bindings j (omega arith) (inner_stands rows z at.parent at.bindings tag inner at.until at.rest at.stands) ge (omega (arith, reach, nested, same, last)) p.1) ∙ field_of_attribute (row_at rows j).kind p.0))
+        let stands = inner_stands rows z at.parent at.bindings tag inner at.until at.rest at.stands in
+        let is = no_fields rows w inner to z bindings j (omega arith) stands ge (omega (arith, reach, nested, same, last)) p.1 in
+        false≢true (sym is ∙ field_of_attribute (row_at rows j).kind p.0))
 
     to_within : to ≤ length rows
-    to_within = omega (arith, ap length (split rows z at.parent at.bindings tag inner at.until at.rest at.stands), length-append front (fields rows z at.parent at.bindings tag inner at.until at.rest at.stands ++ far), length-append (fields rows z at.parent at.bindings tag inner at.until at.rest at.stands) far, front_long)
+    to_within =
+        let own_fields = fields rows z at.parent at.bindings tag inner at.until at.rest at.stands in
+        let all = ap length (split rows z at.parent at.bindings tag inner at.until at.rest at.stands) in
+        omega (arith, all, length-append front (own_fields ++ far), length-append own_fields far, front_long)
 
     -- the attribute of an element's row is that of its tag
     pub attribute_is : (name : List ℕ) → have_own_names tag.attributes ≡ true → attribute rows z name ≡ value_named name (map named_entry tag.attributes)

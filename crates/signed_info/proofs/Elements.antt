@@ -1,7 +1,6 @@
 -- The canonical form of an element of a document says what the element says.
-use Rattle.std.proofs.Common.{◌≡◌, ℕ, ◌<◌, Bool, List, [], length, Option, Some, option_map, sym, ap, ◌∙◌}
-use Rattle.xml_doc.specs.Shape.{row_at, IsWellShaped}
-use Rattle.xml_doc.specs.declared.row.Kind.TheVariants as kinds
+use Rattle.std.proofs.Common.{◌≡◌, ℕ, List, [], Option, Some, option_map, sym, ap, ◌∙◌}
+use Rattle.xml_doc.specs.Shape.{IsWellShaped}
 use Rattle.xml_syntax.specs.Characters.{characters}
 use Rattle.xml_syntax.specs.Grammar.{SpellsDocument}
 use Rattle.xml_syntax.specs.Tree.{Content}
@@ -11,14 +10,13 @@ use Rattle.xml_resolve.proofs.ShapedLaws.{rows_shaped}
 use Rattle.xml_resolve.proofs.SpelledLaws.{spelled_is}
 use Rattle.node_sets.specs.Members.{in_subtree}
 use Rattle.c14n_listing.proofs.Again.{spelled_tidy}
-use Rattle.c14n_text.specs.Namespaces.{Rule}
 use Rattle.c14n_subtrees.specs.Named.{AreWrittenSo, IsNamed}
 use Rattle.c14n_subtrees.specs.Resolved.{resolved_subtree, unplaced_names}
 use Rattle.c14n_subtrees.proofs.OfDocuments.{document_resolved}
 use Rattle.c14n_subtrees.proofs.RowsNamed.{document_named}
 use Rattle.c14n_subtrees.proofs.RowsSound.{document_written}
 use Rattle.signed_info.specs.Signed.{ElementsSayTheSame}
-use Rattle.signed_info.proofs.Same.{IsTop, top_of, same_to, first_element}
+use Rattle.signed_info.proofs.Same.{top_of, same_to, first_element}
 
 pub some_same : {A : Type 0} (a b : A) → ◌≡◌ {A = Option A} (Some a) (Some b) → a ≡ b
 some_same a b e = cc

@@ -1,6 +1,6 @@
 -- The octets that were signed fix what SignedInfo says.
-use Rattle.std.proofs.Common.{◌≡◌, ℕ, zero, suc, ◌+◌, ◌-◌, ◌<◌, ◌≤◌, Bool, true, false, cond, List, [], ◌∷◌, ◌++◌, length, map, Option, Some, None, option_map, refl, sym, ap, ap₂, subst, ◌∙◌, arith}
-use Rattle.std.specs.Prelude.{Result, Ok, Err, IfOk, drop, encode_utf8_all, max, if◌then◌else◌}
+use Rattle.std.proofs.Common.{◌≡◌, ℕ, suc, ◌+◌, ◌-◌, ◌<◌, ◌≤◌, Bool, true, false, cond, List, [], ◌∷◌, length, map, Option, Some, None, option_map, refl, sym, ap, ap₂, subst, ◌∙◌, arith}
+use Rattle.std.specs.Prelude.{Result, Ok, Err, IfOk, drop, encode_utf8_all, max}
 use Rattle.std.specs.Str.{chars, is_utf8}
 use Rattle.std.proofs.lemmas.Bool.{false≢true}
 use Rattle.sig_base.specs.Options.{◌>>=◌}
@@ -9,18 +9,18 @@ use Rattle.sig_base.specs.declared.method.CanonMethod.TheVariants.{C10, C10Comme
 use Rattle.xml_names.specs.Names.{is_ncname}
 use Rattle.xml_doc.specs.Kinds.{is_element}
 use Rattle.xml_doc.specs.Rows.{RowOf}
-use Rattle.xml_doc.specs.Shape.{row_at, IsWellShaped}
+use Rattle.xml_doc.specs.Shape.{IsWellShaped}
 use Rattle.xml_doc.specs.declared.row.Kind.{Kind}
 use Rattle.xml_doc.specs.declared.row.Kind.TheVariants as kinds
 use Rattle.xml_syntax.specs.Characters.{characters}
 use Rattle.xml_syntax.specs.Grammar.{SpellsDocument}
-use Rattle.xml_syntax.specs.Outcome.{names_other_encoding, NamesOtherEncoding}
+use Rattle.xml_syntax.specs.Outcome.{names_other_encoding}
 use Rattle.xml_syntax.specs.Tree.{Content, nothing, text, comment, instruction, element}
 use Rattle.xml_resolve.specs.Depth.{depth}
-use Rattle.xml_resolve.specs.Resolve.{NamedTag, Resolved, nothing_in, text_in, comment_in, instruction_in, element_in, Above, resolve, resolve_tag}
+use Rattle.xml_resolve.specs.Resolve.{Resolved, nothing_in, text_in, comment_in, instruction_in, element_in, Above, resolve, resolve_tag}
 use Rattle.xml_resolve.specs.Rows.{first_bindings, rows_from, rows_of}
 use Rattle.xml_read.specs.ReadOutcome.{depth_limit}
-use Rattle.xml_read.specs.Spelled.{AreUtf8, SpellsTree, Spells}
+use Rattle.xml_read.specs.Spelled.{SpellsTree, Spells}
 use Rattle.xml_read.specs.SpelledTree.{mark_length, behind_mark, characters_of}
 use Rattle.xml_read.proofs.SpelledLaws.{none_named}
 use Rattle.node_sets.specs.Members.{in_subtree}
@@ -29,7 +29,6 @@ use Rattle.c14n_text.specs.Tree as tree
 use Rattle.c14n_text.specs.Namespaces.{Rule, inclusive, eleven, exclusive}
 use Rattle.c14n_text.specs.Canon.{canon}
 use Rattle.c14n_methods.specs.Methods.{canonical_form}
-use Rattle.c14n_listing.specs.Again.{IsSpelled}
 use Rattle.c14n_listing.specs.Listing.{listing}
 use Rattle.c14n_subtrees.specs.Subtree.{node_of, nodes, node_at, subtree}
 use Rattle.c14n_subtrees.specs.Resolved.{resolved_subtree, unplaced_names}
@@ -38,7 +37,7 @@ use Rattle.c14n_subtrees.proofs.OfDocuments.{document_canon, document_resolved}
 use Rattle.dsig_fields.specs.Fields.{fields_of, info_fields, key_info_if}
 use Rattle.dsig_fields.specs.Reading.{required, optional, behind_all, at_end, children}
 use Rattle.dsig_fields.specs.Simple.{simple_octets}
-use Rattle.dsig_fields.specs.Same.{SameElement, SameInfo}
+use Rattle.dsig_fields.specs.Same.{SameElement}
 use Rattle.dsig_fields.specs.declared.fields.Fields.{Fields}
 use Rattle.dsig_fields.specs.declared.fields.Info.{Info}
 use Rattle.dsig_fields.specs.declared.names.ElementName.TheVariants as names
@@ -176,21 +175,23 @@ module _ (at : ℕ) (written : List ℕ) (t : Content) (r : Resolved) (spells : 
       (document_resolved rule comments at written t c.tree r x spells resolves there kind c.spells) in
       let all = resolved_depth c.tree [] s.0 s.1 in
       let low = top_depth s.0 (top_of rule comments rows x shaped there kind s.0 s.2) in
-      let chars_are = characters_are octets unmarked in
-      (rows_of s.0, record {
-        tree = c.tree;
-        resolved = s.0;
-        spells = record {
-          encoding = record {
-            utf8 = ap is_utf8 (behind_is octets unmarked) ∙ c.in_utf8;
-            no_other = none_named (characters_of octets) (ap names_other_encoding chars_are ∙ c.no_encoding);
+      let chars_are = characters_are octets unmarked in (
+        rows_of s.0,
+        record {
+          tree = c.tree;
+          resolved = s.0;
+          spells = record {
+            encoding = record {
+              utf8 = ap is_utf8 (behind_is octets unmarked) ∙ c.in_utf8;
+              no_other = none_named (characters_of octets) (ap names_other_encoding chars_are ∙ c.no_encoding);
+            };
+            spelled = subst (λ cs. SpellsDocument cs c.tree) (sym chars_are) c.spells;
           };
-          spelled = subst (λ cs. SpellsDocument cs c.tree) (sym chars_are) c.spells;
-        };
-        resolves = s.1;
-        shallow = omega (arith, all, low);
-        rows_are = refl;
-      })
+          resolves = s.1;
+          shallow = omega (arith, all, low);
+          rows_are = refl;
+        },
+      )
 
   pub read_same : (others : List RowOf) → Spells octets others → SameElement rows x others 1
   read_same others s =

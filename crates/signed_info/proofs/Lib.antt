@@ -6,3 +6,4 @@ pub mod Same
 pub mod Elements
 pub mod Fixed
 pub mod Verdicts
+pub mod WorkedExamples

@@ -1,6 +1,5 @@
 -- The canonical form of an element, read again, says what the element says: by induction over the levels below it.
 use Rattle.std.proofs.Common.{◌≡◌, ◌≢◌, ℕ, zero, suc, ◌+◌, ◌-◌, ◌<◌, ◌≤◌, Bool, true, false, cond, not, ◌&&◌, eqb, nat_lt, List, [], ◌∷◌, ◌++◌, length, map, refl, sym, ap, subst, ◌∙◌, arith}
-use Rattle.std.specs.Prelude.{if◌then◌else◌}
 use Rattle.std.specs.List.{filter, range_with_len}
 use Rattle.std.proofs.lemmas.Bool.{false≢true, lt-ltb}
 use Rattle.xml_doc.specs.Axes as axes
@@ -21,9 +20,9 @@ use Rattle.c14n_subtrees.specs.Resolved.{named_tag_at, resolved_node_of, resolve
 use Rattle.c14n_subtrees.proofs.Alone.{down, member_from, behind_root}
 use Rattle.c14n_subtrees.proofs.Lists.{Each, each_passing}
 use Rattle.c14n_subtrees.proofs.Written.{IsAttributeOf}
-use Rattle.dsig_fields.specs.Reading.{attribute, children}
-use Rattle.dsig_fields.specs.Same.{Item, Octet, Aside, Inner, told_before, items, SameItems, SaysTheSame, SameTo, SameElement}
-use Rattle.signed_info.proofs.Marks.{Mark, marks, Told, told_letters, marks_before, marks_comment, unplaced_mark, marks_unplaced, told_placed, same_items, deep, deep_marks, deep_is, same_depth}
+use Rattle.dsig_fields.specs.Reading.{children}
+use Rattle.dsig_fields.specs.Same.{Item, Octet, told_before, items, SameTo}
+use Rattle.signed_info.proofs.Marks.{Mark, marks, Told, told_letters, marks_before, marks_comment, marks_unplaced, told_placed, same_items, deep, deep_is, same_depth}
 use Rattle.signed_info.proofs.Standing.{Stands, ElementAt, tree_stands, children_told, element_row_is}
 use Rattle.signed_info.proofs.Attributes.{value_named, attribute_is}
 use Rattle.signed_info.proofs.Written.{values_own, values_are}

@@ -1,15 +1,12 @@
 -- Where the rows of a tree stand among those of a document, and which of them are an element's children.
-use Rattle.std.proofs.Common.{◌≡◌, ◌≢◌, ℕ, zero, suc, ◌+◌, ◌-◌, ◌<◌, ◌≤◌, Bool, true, false, not, ◌&&◌, eqb, nat_lt, inl, inr, List, [], ◌∷◌, ◌++◌, length, map, refl, sym, ap, subst, ◌∙◌, append_assoc, append-nil, length-append, arith}
-use Rattle.std.specs.Prelude.{max}
-use Rattle.std.specs.List.{filter, range_with_len}
-use Rattle.std.proofs.lemmas.Bool.{cases_lt, cases_eq, false≢true, and_from, and_parts, eq-eqb, eqb-true, ne_eqb, lt-ltb}
+use Rattle.std.proofs.Common.{◌≡◌, ℕ, ◌+◌, ◌<◌, ◌≤◌, Bool, true, false, not, ◌&&◌, eqb, nat_lt, inl, inr, List, [], ◌∷◌, ◌++◌, length, refl, sym, ap, subst, ◌∙◌, append_assoc, append-nil, length-append, arith}
+use Rattle.std.proofs.lemmas.Bool.{cases_lt, cases_eq, false≢true, and_from, eq-eqb, ne_eqb, lt-ltb}
 use Rattle.xml_doc.specs.Axes.{is_child, on_axis}
-use Rattle.xml_doc.specs.Kinds.{is_field, is_element}
+use Rattle.xml_doc.specs.Kinds.{is_field}
 use Rattle.xml_doc.specs.Rows.{RowOf}
 use Rattle.xml_doc.specs.Searches.{passing, NonePass}
-use Rattle.xml_doc.specs.Shape.{row_at, no_row, IsWellShaped}
+use Rattle.xml_doc.specs.Shape.{row_at, IsWellShaped}
 use Rattle.xml_doc.specs.declared.axis.Axis.TheVariants.{Child}
-use Rattle.xml_doc.specs.declared.row.Kind.{Kind}
 use Rattle.xml_doc.specs.declared.row.Kind.TheVariants as kinds
 use Rattle.xml_doc.proofs.AxisLemmas.{whole_axis}
 use Rattle.xml_doc.proofs.Numbers.{passing-first}
@@ -17,14 +14,13 @@ use Rattle.xml_doc.proofs.SearchLemmas.{skip_front, none_between}
 use Rattle.xml_doc.proofs.ShapeLemmas.{last_below}
 use Rattle.xml_resolve.specs.Resolve.{NamedTag, Resolved, nothing_in, text_in, comment_in, instruction_in, element_in}
 use Rattle.xml_resolve.specs.Rows.{Binding, with_all, field_rows, element_row, text_row, comment_row, instruction_row, root_row, first_bindings, rows_from, rows_of}
-use Rattle.xml_resolve.proofs.EachLaws.{EachRow, each_at, all_fields}
+use Rattle.xml_resolve.proofs.EachLaws.{each_at, all_fields}
 use Rattle.xml_resolve.proofs.FieldLaws.{here, next_front, one_more}
-use Rattle.c14n_text.specs.Rows.{parent_of}
 use Rattle.c14n_text.specs.Code.Rows.{last_of}
 use Rattle.c14n_text.proofs.RowTree.{tree_of}
 use Rattle.dsig_fields.specs.Reading.{children}
-use Rattle.dsig_fields.specs.Same.{Item, Octet, Aside, Inner, told_before, items}
-use Rattle.signed_info.proofs.Marks.{Mark, Letter, Between, Node, marks, Tells, Told, told_letters, deep}
+use Rattle.dsig_fields.specs.Same.{Item, told_before, items}
+use Rattle.signed_info.proofs.Marks.{Mark, marks, Told, told_letters, deep}
 
 -- the nodes stand from row n on, below row p, where these bindings are in scope
 pub record Stands (rows : List RowOf) (n p : ℕ) (bs : List Binding) (k : Resolved) : Type 0 where

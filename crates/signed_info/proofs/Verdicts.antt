@@ -1,8 +1,7 @@
 -- Reports are verdicts on the octets that were signed.
-use Rattle.std.proofs.Common.{◌≡◌, ℕ, ◌+◌, Bool, true, false, cond, not, ◌&&◌, List, [], ◌∷◌, length, Option, Some, None, refl, sym, ap, ap₂, subst, ◌∙◌}
+use Rattle.std.proofs.Common.{◌≡◌, ℕ, ◌+◌, Bool, true, false, not, ◌&&◌, List, [], ◌∷◌, length, Option, Some, None, refl, sym, ap, ap₂, subst, ◌∙◌}
 use Rattle.std.specs.Prelude.{Result, Ok, Err, nat_le, if◌then◌else◌}
 use Rattle.sig_base.specs.Outcomes.{and_then, with_cause}
-use Rattle.sig_base.specs.declared.method.MacMethod.{MacMethod}
 use Rattle.xml_doc.specs.Rows.{RowOf}
 use Rattle.xml_read.specs.Spelled.{Spells}
 use Rattle.xml_read.proofs.SpelledLaws.{tree_complete}
@@ -17,14 +16,14 @@ use Rattle.dsig_fields.specs.declared.fields.Fields.{Fields}
 use Rattle.dsig_fields.specs.declared.fields.Info.{Info}
 use Rattle.dsig_fields.specs.declared.fields.Reference.{Reference}
 use Rattle.dsig_fields.specs.declared.refusal.FieldRefusal.{FieldRefusal}
-use Rattle.transforms.specs.Outcome.{Sources, canonical_signed_info, choice_refusal, differing, or_no_signature, outcome, references_report, report_by, under_key, verdict, views_of}
+use Rattle.transforms.specs.Outcome.{Sources, choice_refusal, differing, or_no_signature, outcome, references_report, report_by, under_key, verdict, views_of}
 use Rattle.transforms.specs.Steps.{octet_limit}
 use Rattle.transforms.specs.declared.outcome.Report.{Report}
 use Rattle.transforms.specs.declared.outcome.Report.TheVariants as report
 use Rattle.transforms.specs.declared.outcome.ValidateRefusal.{ValidateRefusal}
 use Rattle.transforms.specs.declared.outcome.ValidateRefusal.TheVariants as refusal
 use Rattle.signed_info.specs.Signed.{info_of, signed_octets}
-use Rattle.signed_info.specs.Verdict.{AgreeingReportsAreOne, AreViews, IsValidated, IsVerdict, ReportsAreVerdicts, VerdictsAreOne, report_behind, report_for}
+use Rattle.signed_info.specs.Verdict.{AgreeingReportsAreOne, AreViews, IsVerdict, ReportsAreVerdicts, VerdictsAreOne, report_behind, report_for}
 use Rattle.signed_info.proofs.Elements.{some_same}
 use Rattle.signed_info.proofs.Fixed.{octets_fix}
 

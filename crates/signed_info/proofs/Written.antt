@@ -1,7 +1,7 @@
 -- The attributes in no namespace that the canonical form of an element has: they are those of the element.
-use Rattle.std.proofs.Common.{◌≡◌, ◌≢◌, ℕ, zero, suc, ◌+◌, ◌-◌, ◌<◌, ◌≤◌, Bool, true, false, cond, not, ◌&&◌, ◌||◌, ◌⊎◌, eqb, inl, inr, List, [], ◌∷◌, ◌++◌, length, map, Option, Some, None, option_map, refl, sym, ap, ap₂, subst, ◌∙◌, arith}
+use Rattle.std.proofs.Common.{◌≡◌, ◌≢◌, ℕ, ◌-◌, ◌<◌, Bool, true, false, cond, not, ◌&&◌, ◌||◌, ◌⊎◌, eqb, inl, inr, List, [], ◌∷◌, ◌++◌, length, map, Option, Some, None, option_map, refl, sym, ap, subst, ◌∙◌, arith}
 use Rattle.std.specs.Prelude.{codes, is_some, if◌then◌else◌}
-use Rattle.std.specs.List.{filter, find, list_any, range_with_len}
+use Rattle.std.specs.List.{filter, find, list_any}
 use Rattle.std.specs.Map.{lookup}
 use Rattle.std.specs.Str.{bytes_eq}
 use Rattle.std.specs.declared.cmp.Ordering.{Ordering}
@@ -25,7 +25,7 @@ use Rattle.c14n_subtrees.specs.Named.{AreWrittenSo, IsNamed}
 use Rattle.c14n_subtrees.specs.Resolved.{named_value_at}
 use Rattle.c14n_subtrees.proofs.Lists.{Each, each_at, each_told, find_some, find_none}
 use Rattle.c14n_subtrees.proofs.OwnNames.{Ascends, names_apart, written_ascends}
-use Rattle.c14n_subtrees.proofs.Written.{IsAttributeRow, IsAttributeOf, IsXmlRow, MayWrite, each_attribute, written_each}
+use Rattle.c14n_subtrees.proofs.Written.{IsAttributeOf, MayWrite, each_attribute, written_each}
 use Rattle.dsig_fields.specs.Reading.{is_attribute_named, attribute}
 use Rattle.signed_info.proofs.Attributes.{value_named}
 
@@ -60,7 +60,10 @@ module _ (rows : List RowOf) where
   no_other : (joined : Option (ℕ × List ℕ)) (a : ℕ) (zs : List ℕ) → Each (λ z. attribute_cmp rows a z ≡ Less) zs
       → list_any (have_same_name (named_value_at rows joined a)) (map (named_value_at rows joined) zs) ≡ false
   no_other joined a [] h = refl
-  no_other joined a (z ∷ zs) h = ap (λ (b : Bool). b || list_any (have_same_name (named_value_at rows joined a)) (map (named_value_at rows joined) zs)) (by (bytes_eq (uri z) (uri a)) (bytes_eq (local z) (local a)) refl refl) ∙ no_other joined a zs h.1
+  no_other joined a (z ∷ zs) h =
+      ap (λ (b : Bool). b || list_any (have_same_name (named_value_at rows joined a)) (map (named_value_at rows joined) zs))
+      (by (bytes_eq (uri z) (uri a)) (bytes_eq (local z) (local a)) refl refl)
+      ∙ no_other joined a zs h.1
     where
       by : (b c : Bool) → bytes_eq (uri z) (uri a) ≡ b → bytes_eq (local z) (local a) ≡ c → (b && c) ≡ false
       by true true e f = absurd (names_apart rows a z h.0 (sym ((bytes_eq-Decides (uri z) (uri a)).0 e)) (sym ((bytes_eq-Decides (local z) (local a)).0 f)))
@@ -110,9 +113,11 @@ module _ (rows : List RowOf) where
       where
         by : (b : Bool) → p a ≡ b → cond b (Some a) (find p more) ≡ Some z → (find p more ≡ Some z → Each (λ v. p v ≡ true → v ≡ z) more) → Each (λ v. p v ≡ true → v ≡ z) (a ∷ more)
         by true is f later =
-            let same : a ≡ z = cc in
-            (λ _. same, each_told (λ v. attribute_cmp rows a v ≡ Less) (λ v. p v ≡ true → v ≡ z) more
-            (λ v less k. absurd (names_apart rows a v less ((name_parts a is).0 ∙ sym (name_parts v k).0) ((name_parts a is).1 ∙ sym (name_parts v k).1))) h.0)
+            let same : a ≡ z = cc in (
+              λ _. same,
+              each_told (λ v. attribute_cmp rows a v ≡ Less) (λ v. p v ≡ true → v ≡ z) more
+                  (λ v less k. absurd (names_apart rows a v less ((name_parts a is).0 ∙ sym (name_parts v k).0) ((name_parts a is).1 ∙ sym (name_parts v k).1))) h.0,
+            )
         by false is f later = (λ k. absurd (false≢true (sym is ∙ k)), later f)
 
     -- none of the members has the name, where none in order has it

@@ -13,7 +13,7 @@ use Rattle.dsig_fields.specs.Keys.{QuestionOf, key_of}
 use Rattle.dsig_fields.specs.Signatures.{nth_signature}
 use Rattle.dsig_fields.specs.declared.fields.Fields.{Fields}
 use Rattle.dsig_fields.specs.declared.fields.Info.{Info}
-use Rattle.transforms.specs.Outcome.{Sources, differing, outcome, report_by, views_of}
+use Rattle.transforms.specs.Outcome.{differing, outcome, report_by, views_of}
 use Rattle.transforms.specs.declared.outcome.Report.{Report}
 use Rattle.transforms.specs.declared.outcome.Report.TheVariants as report
 use Rattle.transforms.specs.declared.outcome.ValidateRefusal.{ValidateRefusal}
