@@ -13,5 +13,4 @@ pub mod SameLaws
 pub mod SignatureLaws
 pub mod SimpleLaws
 pub mod Steps
-pub mod VerdictLaws
 pub mod Worked

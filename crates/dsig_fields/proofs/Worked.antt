@@ -3,7 +3,6 @@ use Rattle.std.proofs.Common.{◌≡◌, ℕ, zero, suc, false, List, [], ◌∷
 use Rattle.std.specs.Prelude.{Some, None, Ok, Err, codes}
 use Rattle.std.specs.Str.{chars}
 use Rattle.sig_base.specs.declared.method.CanonMethod.TheVariants.{Exc}
-use Rattle.sig_base.specs.declared.method.DigestMethod.TheVariants.{Sha256}
 use Rattle.sig_base.specs.declared.method.MacMethod.TheVariants.{HmacSha1}
 use Rattle.xml_doc.specs.Rows.{RowOf}
 use Rattle.xml_doc.specs.declared.row.Kind.{Kind}
@@ -15,8 +14,6 @@ use Rattle.sig_base.specs.Prefixes.{names_in}
 use Rattle.dsig_fields.specs.Reading.{children, passed, required, optional, at_end, many, one_or_more}
 use Rattle.dsig_fields.specs.Same.{Item, Octet, Aside, Inner, items, SameItems, SameTo, SameElement}
 use Rattle.dsig_fields.specs.Simple.{joined}
-use Rattle.dsig_fields.specs.Verdicts.{differing}
-use Rattle.dsig_fields.specs.declared.fields.Reference.{Reference}
 use Rattle.dsig_fields.specs.declared.names.ElementName.TheVariants as element
 use Rattle.dsig_fields.specs.declared.refusal.FieldRefusal.TheVariants.{Missing, Extra, NoAlgorithm, UnknownMethod, NoUri, TooManyReferences}
 
@@ -187,11 +184,3 @@ comment_left_out (suc depth) = record {
   attributes = λ name. refl;
   content = (refl, (refl, (refl, (refl, tt))));
 }
-
--- the numbers of References without a view
-abbrev made : Reference
-made = record { row = 0; uri = []; manifest = false; steps = []; digest = Sha256; digest_row = 0; expected = [] }
-
-without_views : differing 1 (made ∷ made ∷ []) [] ≡ 1 ∷ 2 ∷ []
-unfolding differing
-without_views = refl

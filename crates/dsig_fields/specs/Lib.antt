@@ -13,5 +13,4 @@ pub mod Content
 pub mod Manifests
 pub mod Follows
 pub mod Same
-pub mod Verdicts
 pub mod Code

@@ -2,7 +2,6 @@
 
 ghost use Rattle.dsig_fields.specs.Content.{ReadExactly};
 ghost use Rattle.dsig_fields.specs.Same.{InfoSaysTheSame};
-ghost use Rattle.dsig_fields.specs.Verdicts.{VerdictSaysTheSame};
 
 /// The fields of an element are read exactly where its children, comments, instructions and white space aside, are SignedInfo,
 /// SignatureValue, an optional KeyInfo and any number of Objects, and these can be read (XML Signature 1.1 §4.1).
@@ -14,10 +13,4 @@ pub fn read_exactly()
 /// row numbers (XML Signature 1.1 §4.4). Such an element may stand in another document, and without the comments.
 pub fn info_says_the_same()
     ensures { InfoSaysTheSame }
-{}
-
-/// What core validation comes to by octets, views and a key is the same for a SignedInfo and an element that says the same (XML
-/// Signature 1.1 §3.2).
-pub fn verdict_says_the_same()
-    ensures { VerdictSaysTheSame }
 {}
