@@ -1,9 +1,7 @@
 -- Each report of a validation rests on what was signed.
-use Rattle.std.proofs.Common.{◌≡◌, ℕ, Bool, List, Option, Result, Ok, Err, ap, sym, subst}
+use Rattle.std.proofs.Common.{◌≡◌, Bool, List, Result, Ok, ap, subst}
 use Rattle.std.specs.Prelude.{is_some}
-use Rattle.sig_base.specs.Outcomes.{and_then, with_cause}
 use Rattle.sig_outside.specs.Told.{Held}
-use Rattle.digests_hmac.specs.KeyEntries.{KeyEntry}
 use Rattle.xml_doc.specs.Rows.{RowOf}
 use Rattle.xml_read.specs.ReadOutcome.{read_outcome}
 use Rattle.xml_read.proofs.SpelledLaws.{spells_of}

@@ -1,5 +1,5 @@
 -- What the report of a validation rests on: the octets that were signed, the signature value, the key and the views.
-use Rattle.std.specs.Prelude.{◌≡◌, ℕ, Bool, List, is_some, Result, Ok}
+use Rattle.std.specs.Prelude.{◌≡◌, ℕ, Bool, List, is_some, Ok}
 use Rattle.sig_outside.specs.Told.{Held}
 use Rattle.digests_hmac.specs.KeyEntries.{KeyEntry}
 use Rattle.uri_refs.specs.CatalogEntries.{CatalogEntry}
