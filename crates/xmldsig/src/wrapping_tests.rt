@@ -55,7 +55,13 @@ fn written_otherwise(rt: HostRuntime) -> Result<(), Fail> {
         let document = with(&rt, alloc, DOCUMENT, old, new)?;
         expect_report(&rt, alloc, with_document(&document), out)?;
     }
-    let digest = with(&rt, alloc, DOCUMENT, "<DigestValue>KP", "<DigestValue>KP<?p?>")?;
+    let digest = with(
+        &rt,
+        alloc,
+        DOCUMENT,
+        "<DigestValue>KP",
+        "<DigestValue>KP<?p?>",
+    )?;
     expect_refusal(&rt, alloc, with_document(&digest), "refused Extra 27\n")?;
     let rest = with(&rt, alloc, DOCUMENT, OBJECT, "")?;
     let moved = joined(alloc, &[OBJECT, "<SignedInfo>"])?;
