@@ -6,4 +6,5 @@ mod ProgressLaws
 mod ReachedLaws
 mod SignatureLaws
 mod ValidLaws
+pub mod Verdicts
 mod Worked

@@ -2,7 +2,9 @@
 -- the References.
 use Rattle.std.proofs.Common.{◌≡◌, refl, ℕ, ◌+◌, Bool, true, false, List, [], ◌∷◌, Some, None, Result, Ok, Err}
 use Rattle.std.specs.Prelude.{codes, if◌then◌else◌}
+use Rattle.sig_base.specs.declared.method.CanonMethod.TheVariants.{C10}
 use Rattle.sig_base.specs.declared.method.DigestMethod.TheVariants.{Sha256}
+use Rattle.sig_base.specs.declared.method.MacMethod.TheVariants.{HmacSha256}
 use Rattle.sig_outside.specs.Told.{no_files}
 use Rattle.xml_doc.specs.declared.row.Kind.{Kind}
 use Rattle.xml_doc.specs.declared.row.Kind.TheVariants.{Root, Element, Namespace, Text}
@@ -19,6 +21,7 @@ use Rattle.transforms.specs.Views.{view_from, view_of}
 use Rattle.transforms.specs.declared.outcome.Report.TheVariants as report
 use Rattle.transforms.specs.declared.refusal.RefRefusal.TheVariants.{OctetsTooLong}
 use Rattle.core_validate.specs.Progress.{sources_of}
+use Rattle.core_validate.specs.Verdict.{report_for}
 
 abbrev row : Kind → ℕ → ℕ → (local value : List ℕ) → RowOf
 row kind parent last local value =
@@ -68,3 +71,7 @@ reports : (report_by false (codes "ab" ∷ [] ∷ []) [] ≡ report.Valid (recor
     × (report_by true (codes "ab" ∷ [] ∷ []) [] ≡ report.Valid (record { lengths = 2 ∷ 0 ∷ []; octets = codes "ab" ∷ [] ∷ [] }))
     × (report_by true (codes "ab" ∷ [] ∷ []) (2 ∷ []) ≡ report.DigestsDiffer (2 ∷ []))
 reports = (refl, refl, refl)
+
+-- 40 bits of an HMAC-SHA256 are too few, whatever the value is
+short : report_for (record { canon = C10; prefixes = []; mac = HmacSha256; bits = Some 40; references = [] }) [] [] [] [] true ≡ report.ShortTruncation 40
+short = refl

@@ -4,4 +4,5 @@ pub mod Laws
 pub mod Measures
 pub mod Progress
 pub mod Reached
+pub mod Verdict
 pub mod Code

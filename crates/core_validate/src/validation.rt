@@ -1,14 +1,16 @@
 //! Core validation: the signature first, then its References.
 
-ghost use Rattle.std.specs.Prelude.{◌≡◌, IfOk};
+ghost use Rattle.std.specs.Prelude.{◌≡◌, ℕ, List, IfOk};
 ghost use Rattle.std.specs.Option.{ForSome};
 ghost use Rattle.sig_base.specs.Outcomes as outcomes;
 ghost use Rattle.sig_outside.specs.Told.{Held};
+ghost use Rattle.xml_read.specs.Spelled.{Spells};
 ghost use Rattle.dsig_fields.specs.Keys.{question_of};
 ghost use Rattle.transforms.specs.Asked.{names_asked};
 ghost use Rattle.transforms.specs.Outcome.{outcome};
 ghost use Rattle.core_validate.specs.Answers.{AsksAll, FaultCounts, Gives, HasFewViews, HasOwnCause, Stops, TellsAll};
 ghost use Rattle.core_validate.specs.Reached.{Reached};
+ghost use Rattle.core_validate.specs.Verdict.{IsValidated};
 ghost use Rattle.core_validate.specs.Code.Signature as code;
 
 use crate::progress::validate_references;
@@ -59,6 +61,9 @@ fn check_signature(
 /// The first refusal in the order of [`ValidateRefusal`] is the answer. The report is made of the one SignedInfo that was
 /// authenticated, and its views are the octets whose digests were compared. The folder is asked for the files of the
 /// References, each once and in order, and only where the signature holds.
+///
+/// Of a document that octets spell, the report is determined by the octets that were signed, the SignatureValue, the key and the
+/// views: nothing else of the document counts.
 pub fn validate<F: Folder>(
     alloc: Global,
     doc: &Doc<'_>,
@@ -67,6 +72,9 @@ pub fn validate<F: Folder>(
 ) -> Result<Report, ValidateRefusal>
     ensures outcome { (files : Held) → TellsAll doc.now (question_of question.now) (F.held folder.old) files
         → Gives (λ r. r) result (outcome doc.now (question_of question.now) files) }
+    ensures agreed { (octets : List ℕ) (files : Held) → Spells octets doc.now
+        → TellsAll doc.now (question_of question.now) (F.held folder.old) files
+        → IfOk result (IsValidated doc.now (question_of question.now) files) }
     ensures reached { Reached doc.now (question_of question.now) result }
     ensures few { IfOk result HasFewViews }
     ensures causes { HasOwnCause result }

@@ -5,5 +5,4 @@ pub mod Written
 pub mod Same
 pub mod Elements
 pub mod Fixed
-pub mod Verdicts
 pub mod WorkedExamples

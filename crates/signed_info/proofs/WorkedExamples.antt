@@ -1,5 +1,5 @@
 -- The definitions, computed on a small document.
-use Rattle.std.proofs.Common.{◌≡◌, true, List, [], ◌∷◌, Some, None, refl}
+use Rattle.std.proofs.Common.{◌≡◌, List, [], ◌∷◌, Some, None, refl}
 use Rattle.std.specs.Prelude.{codes}
 use Rattle.sig_base.specs.declared.method.CanonMethod.TheVariants.{C10, ExcComments}
 use Rattle.sig_base.specs.declared.method.MacMethod.TheVariants.{HmacSha256}
@@ -10,9 +10,7 @@ use Rattle.c14n_text.proofs.WorkedExamples.{row}
 use Rattle.dsig_fields.specs.Reading.{attribute, children}
 use Rattle.dsig_fields.specs.Same.{Octet, items}
 use Rattle.dsig_fields.specs.declared.fields.Fields.{Fields}
-use Rattle.transforms.specs.declared.outcome.Report.TheVariants as report
-use Rattle.signed_info.specs.Signed.{info_of, signed_octets}
-use Rattle.signed_info.specs.Verdict.{report_for}
+use Rattle.signed_info.specs.Signed.{signed_octets}
 
 -- <s xmlns="urn:s" xml:lang="en"><i A="1">a<!--c-->b</i></s>, whose element i is row 5
 abbrev whole : List RowOf
@@ -66,7 +64,3 @@ own_attribute = refl
 -- an attribute that comes from above isn't seen
 imported_attribute : attribute again 1 (codes "lang") ≡ attribute whole 5 (codes "lang")
 imported_attribute = refl
-
--- 40 bits are too few, whatever the value is
-short : report_for (info_of fields) [] [] [] [] true ≡ report.ShortTruncation 40
-short = refl

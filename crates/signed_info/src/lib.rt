@@ -6,7 +6,4 @@
 
 mod laws;
 
-pub use crate::laws::{
-    agreeing_reports_are_one, elements_say_the_same, reports_are_verdicts,
-    signed_octets_fix_the_fields, verdicts_are_one,
-};
+pub use crate::laws::{elements_say_the_same, signed_octets_fix_the_fields};

@@ -1,3 +1,4 @@
+pub mod Agreed
 pub mod Endings
 pub mod FilesAnswer
 pub mod FormLaws

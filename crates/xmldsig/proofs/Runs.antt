@@ -20,6 +20,7 @@ use Rattle.xmldsig.specs.declared.ending.Ending.{Ending}
 use Rattle.xmldsig.specs.declared.ending.Ending.TheVariants as ending
 use Rattle.xmldsig.specs.declared.ending.Status.{Status}
 use Rattle.xmldsig.specs.declared.ending.Status.TheVariants as status
+use Rattle.xmldsig.proofs.Agreed.{agreed}
 use Rattle.xmldsig.proofs.Endings.{have_all, some_names}
 use Rattle.xmldsig.proofs.Told.{still}
 
@@ -390,6 +391,7 @@ truth pairs faults named held x result old new keepers keepers' out out' err err
           (sinks_by x _ _ result out out' err err' said)
           (cause_by faults keepers keepers' x _ result out out' err err' said settled.cause)
           quiet fine;
+      agreed = λ job is. agreed job files;
       asked = by_said (λ s. AskedBy s (names_for named files) old.names new.names) _ _ (status_of x) result out out' err err' said
           (asks_at x (names_for named files) old.names new.names over.asked)
           (asks_prefix x (names_for named files) old.names new.names over.asked);

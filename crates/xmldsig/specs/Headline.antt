@@ -7,6 +7,7 @@ use Rattle.signed_views.specs.Given.{handed_to}
 use Rattle.signed_views.specs.Handing.{Pair, CountsStand, EachGrew, RoseAt}
 use Rattle.signed_views.specs.declared.handing.Handed.TheVariants as handed
 use Rattle.job_words.specs.declared.job.Job.{Job}
+use Rattle.xmldsig.specs.Agreed.{IsAgreed}
 use Rattle.xmldsig.specs.Ending.{GrewTowards, everywhere}
 use Rattle.xmldsig.specs.Outcome.{Answer, IsValidOutcome, gives_octets, is_validation, names_for, run_outcome, views_of, wanted}
 use Rattle.xmldsig.specs.Outcome.{OfReport, OfOctets}
@@ -166,6 +167,8 @@ pub record Truth {K : Type 0} (pairs : K → Option (List Pair)) (faults : K →
   -- the answer is that of the outcome, and no other where nothing fails and memory isn't wanting
   pub verdict : ForSome named (λ job. Agrees (views_of job) (run_outcome job files) result)
   pub exactly : ForSome named (λ job. NoFault faults old new → result ≢ status.Memory → result ≡ outcome_status (run_outcome job files))
+  -- a report is the verdict on the octets that were signed, the signature value, the key and the views
+  pub agreed : ForSome named (λ job. IsAgreed job files)
   pub asked : AskedBy result (names_for named files) old.folder.names new.folder.names
   pub printed : OutBy (text_for named files) result old.out.told new.out.told
   pub told : ErrBy (line_for named files) result old.out new.out old.err new.err

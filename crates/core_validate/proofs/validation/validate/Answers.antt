@@ -1,7 +1,5 @@
-use Rattle.std.proofs.Common.{◌≡◌, ◌∙◌, ◌++◌, ℕ, List, Result, Ok, Err, Some, ap, refl, sym, subst, append-nil}
-use Rattle.std.proofs.lemmas.Bool.{and_parts}
+use Rattle.std.proofs.Common.{◌∙◌, ◌++◌, ℕ, List, Result, Ok, Err, ap, refl, sym, subst, append-nil}
 use Rattle.std.proofs.lemmas.Result.{err_from_is_err_and}
-use Rattle.sig_outside.specs.Told.{Held}
 use Rattle.dsig_fields.specs.Keys.{question_of}
 use Rattle.transforms.specs.Asked.{names_asked}
 use Rattle.transforms.specs.Outcome.{outcome}
@@ -11,10 +9,11 @@ use Rattle.core_validate.specs.Answers.{AsksAll, Gives}
 use Rattle.core_validate.specs.Code.Signature.{CheckFits, signature_check}
 use Rattle.core_validate.specs.declared.validation.SignatureCheck.{SignatureCheck}
 use Rattle.core_validate.specs.declared.validation.SignatureCheck.TheVariants as check
-use Rattle.core_validate.proofs.AskLaws.{asked_behind, asked_nothing, counted_stop, own_result}
+use Rattle.core_validate.proofs.AskLaws.{asked_nothing, counted_stop, own_result}
 use Rattle.core_validate.proofs.OutcomeLaws.{authentic, names_at, outcome_at}
 use Rattle.core_validate.proofs.ProgressLaws.{refuses_from}
 use Rattle.core_validate.proofs.ReachedLaws.{failure_reached, few_failure, own_stop, references_reached, refusal_reached, tells_each}
+use Rattle.core_validate.proofs.Verdicts.{given_validated, reports_verdicts}
 use Rattle.core_validate.proofs.validation.validate.Goals as goal
 
 pub returns-in_err-failure-clause-outcome : goal.returns-in_err-failure-clause-outcome
@@ -23,6 +22,11 @@ returns-in_err-failure-clause-outcome g c = λ files tells.
     let e = err_from_is_err_and c.from_residual.result c.from_residual.ensures.1 in
     rw (e.1, e.2)
     (refuses_from cause (signature_check rows question) (outcome rows question files) (λ h. outcome_at rows question files (Err cause) h) c.in_err-failure.ensures.check)
+
+pub returns-in_err-failure-clause-agreed : goal.returns-in_err-failure-clause-agreed
+returns-in_err-failure-clause-agreed g c = λ octets files spelled tells.
+    let e = err_from_is_err_and c.from_residual.result c.from_residual.ensures.1 in
+    rw e.1 tt
 
 pub returns-in_err-failure-clause-reached : goal.returns-in_err-failure-clause-reached
 returns-in_err-failure-clause-reached g c =
@@ -50,6 +54,12 @@ pub returns-in-Fails-clause-outcome : goal.returns-in-Fails-clause-outcome
 returns-in-Fails-clause-outcome g c = λ files tells.
     let given = c.in_ok-failure.ensures.check ∙ ap Ok c.in-Fails.is in
     outcome_at c.args.doc.now (question_of c.args.question.now) files (Ok (check.Fails c.in-Fails.failure)) given
+
+pub returns-in-Fails-clause-agreed : goal.returns-in-Fails-clause-agreed
+returns-in-Fails-clause-agreed g c = λ octets files spelled tells.
+    let rows = c.args.doc.now in let question = question_of c.args.question.now in
+    let given = c.in_ok-failure.ensures.check ∙ ap Ok c.in-Fails.is in
+    reports_verdicts octets rows question files c.in-Fails.failure spelled (outcome_at rows question files (Ok (check.Fails c.in-Fails.failure)) given)
 
 pub returns-in-Fails-clause-reached : goal.returns-in-Fails-clause-reached
 returns-in-Fails-clause-reached g c =
@@ -89,6 +99,17 @@ returns-in-Holds-clause-outcome g c = λ files tells.
     let P : Result Report ValidateRefusal → Type 0 = λ o. Gives (λ r. r) result o in
     subst P (sym (outcome_at rows question files (Ok (check.Holds x fields)) given))
     (c.validate_references.ensures.report files (tells_each rows question _ files x fields (authentic rows question x fields given) tells))
+
+pub returns-in-Holds-clause-agreed : goal.returns-in-Holds-clause-agreed
+returns-in-Holds-clause-agreed g c = λ octets files spelled tells.
+    let rows = c.args.doc.now in let question = question_of c.args.question.now in
+    let x = c.in-Holds.signature in let fields = c.in-Holds.fields in
+    let given = c.in_ok-failure.ensures.check ∙ ap Ok c.in-Holds.is in
+    let result = c.validate_references.result in
+    let P : Result Report ValidateRefusal → Type 0 = λ o. Gives (λ r. r) result o in
+    given_validated octets rows question files result spelled
+    (subst P (sym (outcome_at rows question files (Ok (check.Holds x fields)) given))
+    (c.validate_references.ensures.report files (tells_each rows question _ files x fields (authentic rows question x fields given) tells)))
 
 pub returns-in-Holds-clause-reached : goal.returns-in-Holds-clause-reached
 returns-in-Holds-clause-reached g c =

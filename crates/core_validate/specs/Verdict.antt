@@ -46,9 +46,9 @@ VerdictsAreOne =
     → IsVerdict octets value key views keep one → IsVerdict octets value key views keep other → one ≡ other
 
 -- the views that are looked at: those that were made, or none where the signature doesn't hold
-abbrev pub AreViews : (holds : Bool) → (made : Result (List (List ℕ)) ValidateRefusal) → List (List ℕ) → Type 0
-AreViews true made views = made ≡ Ok views
-AreViews false made views = views ≡ []
+abbrev pub AreViewsSeen : (holds : Bool) → (made : Result (List (List ℕ)) ValidateRefusal) → List (List ℕ) → Type 0
+AreViewsSeen true made views = made ≡ Ok views
+AreViewsSeen false made views = views ≡ []
 
 -- the signature that was asked for, with its fields, the key and the views of its References
 pub record IsValidated (rows : List RowOf) (question : QuestionOf) (files : Held) (told : Report) : Type 0 where
@@ -59,7 +59,7 @@ pub record IsValidated (rows : List RowOf) (question : QuestionOf) (files : Held
   pub signature_is : nth_signature rows question.index ≡ Some signature
   pub fields_are : fields_of rows signature ≡ Ok fields
   pub key_is : key_of fields.key_name question ≡ Ok key
-  pub views_are : AreViews (signature_holds fields.mac fields.bits key.octets (signed_octets rows fields) fields.value)
+  pub views_are : AreViewsSeen (signature_holds fields.mac fields.bits key.octets (signed_octets rows fields) fields.value)
       (views_of (record { rows = rows; signature = signature; place = question.place; files = files }) fields.references) views
   pub verdict : IsVerdict (signed_octets rows fields) fields.value key.octets views question.keep_views told
 

@@ -1,7 +1,8 @@
 -- Reports are verdicts on the octets that were signed.
 use Rattle.std.proofs.Common.{◌≡◌, ℕ, ◌+◌, Bool, true, false, not, ◌&&◌, List, [], ◌∷◌, length, Option, Some, None, refl, sym, ap, ap₂, subst, ◌∙◌}
-use Rattle.std.specs.Prelude.{Result, Ok, Err, nat_le, if◌then◌else◌}
+use Rattle.std.specs.Prelude.{Result, Ok, Err, IfOk, nat_le, if◌then◌else◌}
 use Rattle.sig_base.specs.Outcomes.{and_then, with_cause}
+use Rattle.sig_outside.specs.Told.{Held}
 use Rattle.xml_doc.specs.Rows.{RowOf}
 use Rattle.xml_read.specs.Spelled.{Spells}
 use Rattle.xml_read.proofs.SpelledLaws.{tree_complete}
@@ -9,7 +10,7 @@ use Rattle.xml_resolve.specs.Resolve.{resolve}
 use Rattle.xml_resolve.specs.Rows.{rows_of}
 use Rattle.dsig_fields.specs.Fields.{fields_of, info_fields}
 use Rattle.dsig_fields.specs.Holds.{digest_holds, is_long_enough, is_mac_value, value_bits, signature_holds}
-use Rattle.dsig_fields.specs.Keys.{key_of}
+use Rattle.dsig_fields.specs.Keys.{QuestionOf, key_of}
 use Rattle.dsig_fields.specs.Same.{Pairwise, SameInfo, SameReference}
 use Rattle.dsig_fields.specs.Signatures.{nth_signature}
 use Rattle.dsig_fields.specs.declared.fields.Fields.{Fields}
@@ -23,9 +24,10 @@ use Rattle.transforms.specs.declared.outcome.Report.TheVariants as report
 use Rattle.transforms.specs.declared.outcome.ValidateRefusal.{ValidateRefusal}
 use Rattle.transforms.specs.declared.outcome.ValidateRefusal.TheVariants as refusal
 use Rattle.signed_info.specs.Signed.{info_of, signed_octets}
-use Rattle.signed_info.specs.Verdict.{AgreeingReportsAreOne, AreViews, IsVerdict, ReportsAreVerdicts, VerdictsAreOne, report_behind, report_for}
 use Rattle.signed_info.proofs.Elements.{some_same}
 use Rattle.signed_info.proofs.Fixed.{octets_fix}
+use Rattle.core_validate.specs.Answers.{Gives}
+use Rattle.core_validate.specs.Verdict.{AgreeingReportsAreOne, AreViewsSeen, IsValidated, IsVerdict, ReportsAreVerdicts, VerdictsAreOne, report_behind, report_for}
 
 -- ---- what SignedInfo says counts, and not where it stands
 differing_same : (n : ℕ) (ones others : List Reference) (views : List (List ℕ)) → Pairwise SameReference ones others → differing n ones views ≡ differing n others views
@@ -50,14 +52,14 @@ told_same : (told : Report) (one other : Info) (octets value key : List ℕ) (vi
 told_same told one other octets value key views keep e h = e ∙ report_same one other octets value key views keep h
 
 -- ---- steps that were not refused
-then_parts : {A B R : Type 0} (o : Result A R) (f : A → Result B R) (b : B) → and_then o f ≡ Ok b → (a : A) × (o ≡ Ok a) × (f a ≡ Ok b)
+pub then_parts : {A B R : Type 0} (o : Result A R) (f : A → Result B R) (b : B) → and_then o f ≡ Ok b → (a : A) × (o ≡ Ok a) × (f a ≡ Ok b)
 then_parts (Ok a) f b e = (a, refl, e)
 then_parts (Err cause) f b e = absurd cc
 
 ok_same : {X Y : Type 0} (x y : X) → ◌≡◌ {A = Result X Y} (Ok x) (Ok y) → x ≡ y
 ok_same x y f = cc
 
-cause_parts : {A B C : Type 0} (outer : B → C) (o : Result A B) (a : A) → with_cause outer o ≡ Ok a → o ≡ Ok a
+pub cause_parts : {A B C : Type 0} (outer : B → C) (o : Result A B) (a : A) → with_cause outer o ≡ Ok a → o ≡ Ok a
 cause_parts {A} {B} {C} outer (Ok b) a e = let same : b ≡ a = ok_same {X = A} {Y = C} b a e in ap (λ (z : A). Ok z) same
 cause_parts outer (Err cause) a e = absurd cc
 
@@ -71,7 +73,7 @@ module _ (sources : Sources) (keep : Bool) (fields : Fields) (key : List ℕ) (t
   octets = signed_octets sources.rows fields
 
   abbrev Reported : Type 0
-  Reported = (views : List (List ℕ)) × AreViews (signature_holds fields.mac fields.bits key octets fields.value) (views_of sources fields.references) views
+  Reported = (views : List (List ℕ)) × AreViewsSeen (signature_holds fields.mac fields.bits key octets fields.value) (views_of sources fields.references) views
       × (told ≡ report_for (info_of fields) octets fields.value key views keep)
 
   reported : verdict sources keep fields key ≡ Ok told → Reported
@@ -87,7 +89,7 @@ module _ (sources : Sources) (keep : Bool) (fields : Fields) (key : List ℕ) (t
       by : (a b c : Bool)
           → (if not a then Ok (report.ShortTruncation bits) else (if not b then Err refusal.OctetsTooLong else (if not c then Ok report.SignatureDiffers
           else and_then (views_of sources fields.references) (λ views. Ok (behind views))))) ≡ Ok told
-          → (views : List (List ℕ)) × AreViews (a && c) (views_of sources fields.references) views
+          → (views : List (List ℕ)) × AreViewsSeen (a && c) (views_of sources fields.references) views
           × (told ≡ (if not a then report.ShortTruncation bits else (if not c then report.SignatureDiffers else behind views)))
       by false b c f = ([], refl, sym (ok_same {X = Report} {Y = ValidateRefusal} _ told f))
       by true false c f = absurd cc
@@ -126,6 +128,12 @@ reports_verdicts document rows question files told s e =
         is = told_same told (info_of fields) g.0 (signed_octets rows fields) fields.value third.0.octets seen.0 question.keep_views seen.2 g.2;
       };
     }
+
+-- an answer that is the outcome
+pub given_validated : (document : List ℕ) (rows : List RowOf) (question : QuestionOf) (files : Held) (result : Result Report ValidateRefusal)
+    → Spells document rows → Gives (λ r. r) result (outcome rows question files) → IfOk result (IsValidated rows question files)
+given_validated document rows question files (Ok told) s e = reports_verdicts document rows question files told s e
+given_validated document rows question files (Err cause) s e = tt
 
 -- ---- one verdict
 spelled_one : (octets : List ℕ) (rows others : List RowOf) → Spells octets rows → Spells octets others → rows ≡ others
