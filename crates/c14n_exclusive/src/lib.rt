@@ -7,7 +7,7 @@ ghost use Rattle.node_sets.specs.View.{in_view, rows_of};
 ghost use Rattle.c14n_text.specs.Namespaces.{exclusive};
 ghost use Rattle.c14n_text.specs.Canon.{canon};
 
-use c14n_rows::Method;
+use c14n_rows::{Listed, Method};
 use node_sets::SetView;
 use sig_base::{NoMemory, OctetSink, PrefixList, Put};
 use std::alloc::Global;
@@ -55,13 +55,15 @@ impl<'d> Renderer<'d> {
             (canon (exclusive (map encode_utf8_all prefixes.now)) comments self.old (in_view set.entry)) result }
         ensures as_prepared { self.new ≡ self.old }
     {
+        let listed = Listed::new(prefixes);
         self.walks
-            .write(set, Method::Exclusive(prefixes), comments, sink)
+            .write(set, Method::Exclusive(&listed), comments, sink)
     }
 }
 
-/// Writes the exclusive canonical form of one set of rows, with comments or without. Memory is taken for the rows of the set's range and
-/// the rows above them alone, before anything is written: where it isn't given, nothing was.
+/// Writes the exclusive canonical form of one set of rows, with comments or without. Memory is taken for the names of the
+/// PrefixList, and for the rows of the set's range and the rows above them alone, before anything is written: where it isn't
+/// given, nothing was.
 ///
 /// `Refused` comes where the sink refused a piece, and leaves a prefix of the form in it.
 pub fn write_once<S: OctetSink>(
@@ -75,5 +77,6 @@ pub fn write_once<S: OctetSink>(
         (canon (exclusive (map encode_utf8_all prefixes.now)) comments (rows_of set.entry) (in_view set.entry)) put) }
     ensures untouched { OnErr result (sink.new ≡ sink.old) }
 {
-    c14n_rows::write_once(alloc, set, Method::Exclusive(prefixes), comments, sink)
+    let listed = Listed::in_order(alloc, prefixes)?;
+    c14n_rows::write_once(alloc, set, Method::Exclusive(&listed), comments, sink)
 }

@@ -1,10 +1,13 @@
 pub mod AttributeLemmas
 pub mod Chains
 pub mod Range
-pub mod Ordered
 pub mod SoFar
 pub mod NameLemmas
+pub mod PrefixLemmas
+pub mod UtilizedLemmas
 pub mod OrderLemmas
+pub mod OrderLaws
+pub mod ImportLemmas
 pub mod StackLemmas
 pub mod FrameLemmas
 pub mod XmlLemmas

@@ -1,10 +1,11 @@
 -- The attribute rows of an element stand in order, so that those in the set need not be put in order.
-use Rattle.std.proofs.Common.{◌≡◌, ℕ, zero, suc, ◌+◌, ◌-◌, ◌<◌, ◌≤◌, ◌&&◌, Bool, true, false, cond, eqb, Option, Some, None, inl, inr, List, [], ◌∷◌, ◌++◌, length, get_or, refl, ap, sym, ◌∙◌, arith, append-nil}
-use Rattle.std.specs.List.{find, filter, flat_map, range_with_len}
+use Rattle.std.proofs.Common.{◌≡◌, ℕ, zero, suc, ◌+◌, ◌-◌, ◌<◌, ◌≤◌, ◌&&◌, ◌||◌, Bool, true, false, cond, eqb, Option, Some, None, inl, inr, List, [], ◌∷◌, ◌++◌, length, get_or, refl, ap, sym, ◌∙◌, arith, append-nil}
+use Rattle.std.specs.List.{filter, flat_map, list_any, range_with_len}
 use Rattle.std.specs.Cmp.{IsTotalOrder}
+use Rattle.std.specs.Cmp.Lexicographic.{slice_cmp}
 use Rattle.std.specs.declared.cmp.Ordering.{Ordering}
 use Rattle.std.specs.declared.cmp.Ordering.TheVariants.{Less, Equal, Greater}
-use Rattle.std.proofs.lemmas.Bool.{cases_eq, eqb-true, and_parts, false≢true, false_from_ne_true}
+use Rattle.std.proofs.lemmas.Bool.{cases_eq, cases_lt, eqb-true, and_parts, false≢true, false_from_ne_true}
 use Rattle.std.proofs.lemmas.Cmp.{nat_list_cmp_total, on_total, then_total}
 use Rattle.std.proofs.lemmas.List.{length-reverse}
 use Rattle.std.proofs.lemmas.List.Elements.{filter_passes}
@@ -17,18 +18,16 @@ use Rattle.xml_doc.specs.Shape.{row_at, IsWellShaped}
 use Rattle.xml_doc.specs.Fields.{is_attribute_of, attribute_rows}
 use Rattle.c14n_text.specs.Rows.{parent_of}
 use Rattle.c14n_text.specs.Namespaces.{Rule}
-use Rattle.c14n_text.specs.Code.Choice.{is_behind, best_of}
-use Rattle.c14n_text.proofs.ChoiceLemmas as choice
-use Rattle.c14n_text.proofs.ChoiceLemmas.{best_of-in_order}
+use Rattle.c14n_text.specs.Code.Choice.{is_behind}
 use Rattle.c14n_rows.specs.Code.Order.{IsBehindFrom}
-use Rattle.c14n_rows.proofs.AttributeLemmas.{find-filter}
-use Rattle.xml_doc.proofs.Ranges.{find_more}
-use Rattle.std.specs.Ordering.{is_lt}
-use Rattle.c14n_text.specs.Attributes.{attribute_cmp, imported, imports_attributes, in_order, is_imported, placed, put_in, xml_above, xml_attributes}
+use Rattle.std.specs.Ordering.{is_lt, nat_cmp, ordering_reverse, ordering_then}
+use Rattle.std.proofs.lemmas.Slice.Eq.{bytes_eq-Decides}
+use Rattle.sig_base.specs.Names.{xml_name}
+use Rattle.c14n_text.specs.Attributes.{attribute_cmp, imported, imports_attributes, in_order, is_imported, is_xml, placed, put_in, same_name, xml_above, xml_attributes}
 use Rattle.c14n_text.specs.Bases.{base_place, is_own, written_attributes}
 use Rattle.c14n_rows.specs.Stacks.{upwards}
 use Rattle.c14n_rows.specs.Code.Stacks.{xml_at}
-use Rattle.c14n_rows.proofs.NameLemmas.{attributes_range}
+use Rattle.c14n_rows.proofs.NameLemmas.{any_none, attributes_range}
 
 attribute_is : (k : Kind) → is_attribute k ≡ true → k ≡ Attribute
 attribute_is Root e = absurd (false≢true e)
@@ -64,12 +63,31 @@ rising-filter p (suc n) a fin le = go (p a) (rising-filter p n (a + 1) fin (omeg
     go true more = (omega arith, omega arith, more)
     go false more = rising-less fin a (a + 1) (filter p (range_with_len (a + 1) n)) (omega arith) more
 
-filter-same : (p q : ℕ → Bool) → ((a : ℕ) → p a ≡ q a) → (xs : List ℕ) → filter p xs ≡ filter q xs
+pub filter-same : (p q : ℕ → Bool) → ((a : ℕ) → p a ≡ q a) → (xs : List ℕ) → filter p xs ≡ filter q xs
 filter-same p q same [] = refl
 filter-same p q same (x ∷ xs) = ap (λ (t : Bool). cond t (x ∷ filter p xs) (filter p xs)) (same x) ∙ ap (λ (ys : List ℕ). cond (q x) (x ∷ ys) ys) (filter-same p q same xs)
 
+any-filter : (p q : ℕ → Bool) (xs : List ℕ) → list_any p (filter q xs) ≡ list_any (λ x. q x && p x) xs
+any-filter p q [] = refl
+any-filter p q (x ∷ xs) = go (q x) (any-filter p q xs)
+  where
+    go : (b : Bool) → list_any p (filter q xs) ≡ list_any (λ y. q y && p y) xs → list_any p (cond b (x ∷ filter q xs) (filter q xs)) ≡ ((b && p x) || list_any (λ y. q y && p y) xs)
+    go false e = e
+    go true e = ap (λ (t : Bool). p x || t) e
+
+any_at : (p : ℕ → Bool) (n a k : ℕ) → a ≤ k → k < a + n → p k ≡ true → list_any p (range_with_len a n) ≡ true
+any_at p zero a k ge lt is = absurd (omega arith)
+any_at p (suc n) a k ge lt is = elim (cases_eq k a) [
+  | inl same ↦ ap (λ (t : Bool). t || list_any p (range_with_len (a + 1) n)) (ap p (sym same) ∙ is)
+  | inr other ↦ ap (λ (t : Bool). p a || t) (any_at p n (a + 1) k (omega arith) (omega arith) is) ∙ or_true (p a)
+]
+  where
+    or_true : (t : Bool) → (t || true) ≡ true
+    or_true true = refl
+    or_true false = refl
+
 module _ (rows : List RowOf) where
-  total : IsTotalOrder (attribute_cmp rows)
+  pub total : IsTotalOrder (attribute_cmp rows)
   total = then_total (on_total (λ a. (row_at rows a).uri) nat_list_cmp_total) (on_total (λ a. (row_at rows a).local_name) nat_list_cmp_total)
 
   -- a list whose members are in order is in order
@@ -82,6 +100,24 @@ module _ (rows : List RowOf) where
       at : (ys : List ℕ) → Rising fin (z + 1) ys → put_in rows z ys ≡ z ∷ ys
       at [] s = refl
       at (y ∷ ys) s = let ge = r.0 in let up = s.0 in ap (λ (o : Ordering). placed o z y ys (put_in rows z ys)) (less z y (omega arith) (omega arith) s.1)
+
+  itself : (a : ℕ) → attribute_cmp rows a a ≡ Equal
+  itself a = go (attribute_cmp rows a a) refl
+    where
+      go : (o : Ordering) → attribute_cmp rows a a ≡ o → attribute_cmp rows a a ≡ Equal
+      go Less e = absurd (false≢true (ap is_lt (sym (total.antisymm a a ∙ ap ordering_reverse e) ∙ e)))
+      go Equal e = e
+      go Greater e = absurd (false≢true (ap is_lt (sym e ∙ total.antisymm a a ∙ ap ordering_reverse e)))
+
+  -- two `xml:` attributes of one local name have one name
+  pub level_of : (a k : ℕ) → is_xml rows a ≡ true → (is_xml rows k && same_name rows a k) ≡ true → attribute_cmp rows a k ≡ Equal
+  level_of a k is both =
+      let parts = and_parts (is_xml rows k) (same_name rows a k) both in
+      let uri : (row_at rows k).uri ≡ (row_at rows a).uri = (bytes_eq-Decides (row_at rows k).uri xml_name).0 parts.0 ∙ sym ((bytes_eq-Decides (row_at rows a).uri xml_name).0 is) in
+      let local : (row_at rows k).local_name ≡ (row_at rows a).local_name = (bytes_eq-Decides (row_at rows k).local_name (row_at rows a).local_name).0 parts.1 in
+      ap (λ (u : List ℕ). ordering_then (slice_cmp nat_cmp (row_at rows a).uri u) (slice_cmp nat_cmp (row_at rows a).local_name (row_at rows k).local_name)) uri
+      ∙ ap (λ (l : List ℕ). ordering_then (slice_cmp nat_cmp (row_at rows a).uri (row_at rows a).uri) (slice_cmp nat_cmp (row_at rows a).local_name l)) local
+      ∙ itself a
 
   module _ (w : IsWellShaped rows) (x first fin : ℕ) (ordered : first ≤ fin) (within : fin ≤ length rows) (own : attribute_rows rows x ≡ range_with_len first (fin - first)) where
     is_attribute_here : (k : ℕ) → first ≤ k → k < fin → is_attribute_of rows x k ≡ true
@@ -110,7 +146,7 @@ module _ (rows : List RowOf) where
     less_by (suc d) i j above is lt =
         total.trans i (i + 1 + d) j (less_by d i (i + 1 + d) above refl (omega arith)) (next_less (i + 1 + d) j (omega arith) (omega arith) lt)
 
-    own_in_order : (p : ℕ → Bool) → in_order rows (filter p (attribute_rows rows x)) ≡ filter p (attribute_rows rows x)
+    pub own_in_order : (p : ℕ → Bool) → in_order rows (filter p (attribute_rows rows x)) ≡ filter p (attribute_rows rows x)
     own_in_order p =
         ap (λ (ys : List ℕ). in_order rows (filter p ys)) own
         ∙ in_order-rising fin first (λ (i j : ℕ) (above : first ≤ i) (lt : i < j) (under : j < fin). less_by (j - (i + 1)) i j above (omega arith) under)
@@ -174,49 +210,34 @@ module _ (rows : List RowOf) where
       behind = λ (k : ℕ) (ge : low ≤ k) (lt : k < fin). h.behind k (omega arith) lt;
     }
 
-    -- the first that counts from there on is the best
-    pub best_own : (p : ℕ → Bool) (last : Option ℕ) (place : ℕ) → IsBehindFrom rows last first fin place → best_of rows last None (filter p (range_with_len first (fin - first))) ≡ find p (range_with_len place (fin - place))
-    best_own p last place h =
-        best_of-in_order rows last (filter p (range_with_len first (fin - first)))
-        ∙ ap (λ (ys : List ℕ). choice.first (filter (is_behind rows last) ys)) (ap (λ (ys : List ℕ). in_order rows (filter p ys)) (sym own) ∙ own_in_order p ∙ ap (filter p) own)
-        ∙ first-find (is_behind rows last) (filter p (range_with_len first (fin - first)))
-        ∙ find-filter (is_behind rows last) p (range_with_len first (fin - first))
-        ∙ skip (place - first) first (let low = h.low in omega arith) (omega arith)
+    -- the only one that can have the name of row a stands right before those that go behind it
+    pub own_of_name : (a place : ℕ) → is_xml rows a ≡ true → IsBehindFrom rows (Some a) first fin place → (t : Bool)
+        → (t ≡ true → (first < place) × ((is_xml rows (place - 1) && same_name rows a (place - 1)) ≡ true))
+        → (t ≡ false → first < place → (is_xml rows (place - 1) && same_name rows a (place - 1)) ≡ false)
+        → t ≡ list_any (same_name rows a) (xml_attributes rows x)
+    own_of_name a place is h t found lost = go t refl ∙ sym (ap (λ (ks : List ℕ). list_any (same_name rows a) (filter (is_xml rows) ks)) own ∙ any-filter (same_name rows a) (is_xml rows) (range_with_len first (fin - first)))
       where
-        counts : ℕ → Bool
-        counts a = p a && is_behind rows last a
+        named : ℕ → Bool
+        named k = is_xml rows k && same_name rows a k
 
-        and_false : (t : Bool) → (t && false) ≡ false
-        and_false true = refl
-        and_false false = refl
+        not_named : t ≡ false → (k : ℕ) → first ≤ k → k < fin → named k ≡ false
+        not_named f k above lt = false_from_ne_true (named k) (λ (yes : named k ≡ true).
+            let same : attribute_cmp rows a k ≡ Equal = level_of a k is yes in
+            elim (cases_lt k place) [
+              | inr behind ↦ false≢true (sym (ap is_lt same) ∙ h.behind k (omega arith) lt)
+              | inl before ↦ elim (cases_eq k (place - 1)) [
+                | inl last ↦ false≢true (sym (lost f (omega arith)) ∙ ap named (sym last) ∙ yes)
+                | inr earlier ↦
+                    let high = h.high in
+                    let less : attribute_cmp rows k (place - 1) ≡ Less = less_by (place - 1 - (k + 1)) k (place - 1) above (omega arith) (omega arith) in
+                    false≢true (sym (h.before (place - 1) (omega arith) (omega arith)) ∙ ap is_lt (total.congr a k (place - 1) same ∙ less))
+              ]
+            ])
 
-        and_true : (t : Bool) → (t && true) ≡ t
-        and_true true = refl
-        and_true false = refl
-
-        first-find : (q : ℕ → Bool) (xs : List ℕ) → choice.first (filter q xs) ≡ find q xs
-        first-find q [] = refl
-        first-find q (z ∷ zs) = go (q z) (first-find q zs)
-          where
-            go : (t : Bool) → choice.first (filter q zs) ≡ find q zs → choice.first (cond t (z ∷ filter q zs) (filter q zs)) ≡ cond t (Some z) (find q zs)
-            go true e = refl
-            go false e = e
-
-        agree : (n a : ℕ) → place ≤ a → a + n ≤ fin → find counts (range_with_len a n) ≡ find p (range_with_len a n)
-        agree zero a ge le = refl
-        agree (suc n) a ge le =
-            ap (λ (t : Bool). cond (p a && t) (Some a) (find counts (range_with_len (a + 1) n))) (h.behind a ge (omega arith))
-            ∙ ap (λ (t : Bool). cond t (Some a) (find counts (range_with_len (a + 1) n))) (and_true (p a))
-            ∙ ap (λ (o : Option ℕ). cond (p a) (Some a) o) (agree n (a + 1) (omega arith) (omega arith))
-
-        skip : (d a : ℕ) → a + d ≡ place → first ≤ a → find counts (range_with_len a (fin - a)) ≡ find p (range_with_len place (fin - place))
-        skip zero a is ge =
-            let e : a ≡ place = omega arith in let high = h.high in
-            ap (λ (b : ℕ). find counts (range_with_len b (fin - b))) e ∙ agree (fin - place) place (omega arith) (omega arith)
-        skip (suc d) a is ge =
-            let high = h.high in
-            find_more counts a fin (omega arith) (sym (ap (λ (t : Bool). p a && t) (h.before a ge (omega arith)) ∙ and_false (p a)))
-            ∙ skip d (a + 1) (omega arith) (omega arith)
+        go : (b : Bool) → t ≡ b → t ≡ list_any named (range_with_len first (fin - first))
+        go true e = let there = found e in let high = h.high in let lt = there.0 in
+            e ∙ sym (any_at named (fin - first) first (place - 1) (omega arith) (omega arith) there.1)
+        go false e = e ∙ sym (any_none named first (fin - first) (λ (k : ℕ) (ge : first ≤ k) (lt : k < first + (fin - first)). not_named e k ge (omega arith)))
 
 -- where no `xml:` attribute stands above x, and no value is joined, x writes its own attributes in the set alone
 pub written_alone : (rows : List RowOf) → IsWellShaped rows → (set : ℕ → Bool) (rule : Rule) (x : ℕ) → x < length rows → xml_at rows (parent_of rows x) ≡ [] → written_attributes rows set rule None x ≡ filter set (attribute_rows rows x)

@@ -221,3 +221,17 @@ pub xml_at-skip : (rows : List RowOf) → IsWellShaped rows → (x : ℕ) → (x
 xml_at-skip rows w x not_root lt is =
     xml_at-more rows w x not_root lt ∙ ap (λ (ys : List ℕ). xml_at rows (parent_of rows x) ++ reverse (filter (is_xml rows) ys)) (no_attributes rows w x is)
     ∙ append-nil (xml_at rows (parent_of rows x))
+
+-- there is room for a mark of each namespace row of an element
+pub marks_room : (rows : List RowOf) → IsWellShaped rows → (x capacity : ℕ) → x < length rows → total (count_of rows) (upwards rows x) ≤ capacity → length (namespace_rows rows x) ≤ capacity
+marks_room rows w x capacity lt room = go (is_element (kind_of rows x)) refl
+  where
+    own : x < length rows → (x ≡ 0 → ⊥) → count_of rows x ≤ total (count_of rows) (upwards rows x)
+    own lt not_root = let more = ap (total (count_of rows)) (chain-more rows w x not_root lt) in omega arith
+
+    go : (t : Bool) → is_element (kind_of rows x) ≡ t → length (namespace_rows rows x) ≤ capacity
+    go false is = let none = ap (length {A = ℕ}) (no_namespaces rows w x is) in omega arith
+    go true is =
+        let few = own lt (λ (root : x ≡ 0). let kind = ap (λ (y : ℕ). is_element (kind_of rows y)) (sym root) in false≢true (sym (ap is_element w.root_kind) ∙ kind ∙ is)) in
+        let n = ap (λ (t : Bool). cond t (1 + length (namespace_rows rows x) + length (attribute_rows rows x)) 0) is in
+        omega arith

@@ -9,10 +9,12 @@ use Rattle.c14n_text.specs.Rows.{kind_of, parent_of}
 use Rattle.c14n_text.specs.Code.Rows.{last_of}
 use Rattle.c14n_text.specs.Namespaces.{Rule}
 use Rattle.c14n_text.specs.Bases.{with_bases}
+use Rattle.c14n_rows.specs.declared.imports.Ordered.{Ordered}
+use Rattle.c14n_rows.specs.declared.renderer.Memory.{Memory}
 use Rattle.c14n_rows.specs.declared.stacks.Stacks.{Stacks}
 use Rattle.c14n_rows.specs.Joined.{BasesFit}
-use Rattle.c14n_rows.specs.Stacks.{count_of, octets_of, IsEmpty, RoomAt, RoomIn}
-use Rattle.c14n_rows.specs.Code.Stacks.{run_bases, HasRoom, IsTaken, Keeps, SlotFits, StacksAt}
+use Rattle.c14n_rows.specs.Stacks.{count_of, octets_of, IsEmpty, OrderedIn, RoomAt, RoomIn}
+use Rattle.c14n_rows.specs.Code.Stacks.{run_bases, HasRoom, IsTaken, IsTakenFor, Keeps, KeepsOrdered, SlotFits, StacksAt}
 use Rattle.c14n_rows.proofs.StackLemmas.{slots_at-skip, slots_at-root, xml_at-skip, xml_at-root}
 use Rattle.c14n_rows.proofs.RunLemmas.{runs_at-skip, runs_at-root}
 use Rattle.c14n_rows.proofs.EntryLemmas.{total-above}
@@ -53,13 +55,14 @@ stacks-root rows set rule w stacks none = record {
 }
 
 pub keeps-all : (stacks : Stacks) → Keeps stacks stacks
-keeps-all stacks = record { slots = omega arith; xml = omega arith; runs = omega arith; octets = refl; fit = λ (f : BasesFit stacks.joining). f }
+keeps-all stacks = record { slots = omega arith; xml = omega arith; runs = omega arith; marks = omega arith; octets = refl; fit = λ (f : BasesFit stacks.joining). f }
 
 pub keeps-then : (old now new : Stacks) → Keeps old now → Keeps now new → Keeps old new
 keeps-then old now new a b = record {
   slots = let m = a.slots in let n = b.slots in omega arith;
   xml = let m = a.xml in let n = b.xml in omega arith;
   runs = let m = a.runs in let n = b.runs in omega arith;
+  marks = let m = a.marks in let n = b.marks in omega arith;
   octets = a.octets ∙ b.octets;
   fit = λ (f : BasesFit old.joining). b.fit (a.fit f);
 }
@@ -69,6 +72,7 @@ room-kept rows x old new k r = record {
   slots = let m = r.slots in let n = k.slots in omega arith;
   xml = let m = r.xml in let n = k.xml in omega arith;
   runs = let m = r.runs in let n = k.runs in omega arith;
+  marks = let m = r.marks in let n = k.marks in omega arith;
   octets = let m = r.octets in let n = k.octets in omega arith;
   fit = k.fit r.fit;
 }
@@ -85,6 +89,7 @@ room-above rows w y x stacks le within lt r =
       slots = let m = r.slots in omega arith;
       xml = let m = r.xml in omega arith;
       runs = let m = r.runs in omega arith;
+      marks = let m = r.marks in omega arith;
       octets = let m = r.octets in omega arith;
       fit = r.fit;
     }
@@ -98,20 +103,60 @@ room-taken rows first until entries octets stacks e o t = record {
         slots = let k = t.slots in omega arith;
         xml = let k = t.xml in omega arith;
         runs = let k = t.runs in omega arith;
+        marks = let k = t.marks in omega arith;
         octets = let k = t.octets in omega arith;
         fit = t.fit;
       };
 }
 
+pub room-if_taken : {E : Type 0} (rows : List RowOf) (first until entries octets : ℕ) (taken : Result Memory E) → HasRoom rows (count_of rows) first until entries → HasRoom rows (octets_of rows) first until octets
+    → IfOk taken (λ m. IsTaken entries octets m.stacks) → IfOk taken (λ m. RoomIn rows first until m.stacks)
+room-if_taken rows first until entries octets (Ok m) e o t = room-taken rows first until entries octets m.stacks e o t
+room-if_taken rows first until entries octets (Err fault) e o t = tt
+
 pub room_in-less : (rows : List RowOf) (first until start fin : ℕ) (stacks : Stacks) → first ≤ start → fin ≤ until → RoomIn rows first until stacks → RoomIn rows start fin stacks
 room_in-less rows first until start fin stacks le less r = record { at = λ (x : ℕ) (ge : start ≤ x) (lt : x < fin). r.at x (omega arith) (omega arith) }
 
-pub room-if_taken : {E : Type 0} (rows : List RowOf) (first until entries octets : ℕ) (taken : Result Stacks E) → HasRoom rows (count_of rows) first until entries → HasRoom rows (octets_of rows) first until octets
-    → IfOk taken (λ s. IsTaken entries octets s) → IfOk taken (λ s. RoomIn rows first until s)
-room-if_taken rows first until entries octets (Ok s) e o t = room-taken rows first until entries octets s e o t
-room-if_taken rows first until entries octets (Err fault) e o t = tt
-
 -- without rows no room is needed
-pub room-if_none : {E : Type 0} (rows : List RowOf) (taken : Result Stacks E) → length rows ≤ 1 → IfOk taken (λ s. RoomIn rows 1 (length rows) s)
-room-if_none rows (Ok s) none = record { at = λ (x : ℕ) (le : 1 ≤ x) (lt : x < length rows). absurd (omega arith) }
+pub room-if_none : {E : Type 0} (rows : List RowOf) (taken : Result Memory E) → length rows ≤ 1 → IfOk taken (λ m. RoomIn rows 1 (length rows) m.stacks)
+room-if_none rows (Ok m) none = record { at = λ (x : ℕ) (le : 1 ≤ x) (lt : x < length rows). absurd (omega arith) }
 room-if_none rows (Err fault) none = tt
+
+-- the memory in which attributes are put in order
+pub keeps_ordered-all : (ordered : Ordered) → KeepsOrdered ordered ordered
+keeps_ordered-all ordered = record { attributes = omega arith; spare = omega arith }
+
+pub keeps_ordered-then : (old now new : Ordered) → KeepsOrdered old now → KeepsOrdered now new → KeepsOrdered old new
+keeps_ordered-then old now new a b = record {
+  attributes = let m = a.attributes in let n = b.attributes in omega arith;
+  spare = let m = a.spare in let n = b.spare in omega arith;
+}
+
+pub ordered_in-kept : (rows : List RowOf) (first until : ℕ) (old new : Ordered) → KeepsOrdered old new → OrderedIn rows first until old → OrderedIn rows first until new
+ordered_in-kept rows first until old new k r = record {
+  at = λ (x : ℕ) (le : first ≤ x) (lt : x < until).
+      let room = r.at x le lt in
+      record {
+        attributes = let m = room.attributes in let n = k.attributes in omega arith;
+        spare = let m = room.spare in let n = k.spare in omega arith;
+      };
+}
+
+pub ordered_in-less : (rows : List RowOf) (first until start fin : ℕ) (ordered : Ordered) → first ≤ start → fin ≤ until → OrderedIn rows first until ordered → OrderedIn rows start fin ordered
+ordered_in-less rows first until start fin ordered le less r = record { at = λ (x : ℕ) (ge : start ≤ x) (lt : x < fin). r.at x (omega arith) (omega arith) }
+
+pub ordered-if_taken : {E : Type 0} (rows : List RowOf) (first until entries : ℕ) (taken : Result Memory E) → HasRoom rows (count_of rows) first until entries
+    → IfOk taken (λ m. IsTakenFor entries m.ordered) → IfOk taken (λ m. OrderedIn rows first until m.ordered)
+ordered-if_taken rows first until entries (Ok m) e t = record {
+  at = λ (x : ℕ) (le : first ≤ x) (lt : x < until).
+      let n = e.room x le lt in
+      record {
+        attributes = let k = t.attributes in omega arith;
+        spare = let k = t.spare in omega arith;
+      };
+}
+ordered-if_taken rows first until entries (Err fault) e t = tt
+
+pub ordered-if_none : {E : Type 0} (rows : List RowOf) (taken : Result Memory E) → length rows ≤ 1 → IfOk taken (λ m. OrderedIn rows 1 (length rows) m.ordered)
+ordered-if_none rows (Ok m) none = record { at = λ (x : ℕ) (le : 1 ≤ x) (lt : x < length rows). absurd (omega arith) }
+ordered-if_none rows (Err fault) none = tt

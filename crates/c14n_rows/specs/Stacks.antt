@@ -6,6 +6,7 @@ use Rattle.xml_doc.specs.Fields.{namespace_rows, attribute_rows}
 use Rattle.c14n_text.specs.Rows.{kind_of, parent_of}
 use Rattle.c14n_text.specs.Tree.{chain_within}
 use Rattle.c14n_text.specs.Bases.{bases}
+use Rattle.c14n_rows.specs.declared.imports.Ordered.{Ordered}
 use Rattle.c14n_rows.specs.declared.stacks.Stacks.{Stacks}
 use Rattle.c14n_rows.specs.Joined.{BasesFit, weights}
 
@@ -30,6 +31,7 @@ pub record RoomAt (rows : List RowOf) (x : ℕ) (stacks : Stacks) : Type 0 where
   pub slots : total (count_of rows) (upwards rows x) ≤ vec_capacity stacks.slots
   pub xml : total (count_of rows) (upwards rows x) ≤ vec_capacity stacks.xml
   pub runs : total (count_of rows) (upwards rows x) ≤ vec_capacity stacks.runs
+  pub marks : total (count_of rows) (upwards rows x) ≤ vec_capacity stacks.marks
   pub octets : total (octets_of rows) (upwards rows x) ≤ stacks.joining.room
   pub fit : BasesFit stacks.joining
 
@@ -43,3 +45,12 @@ pub record IsEmpty (stacks : Stacks) : Type 0 where
   pub xml : stacks.xml.items ≡ []
   pub runs : stacks.runs.items ≡ []
   pub nearest : stacks.joining.nearest ≡ None
+
+-- the memory in which the attributes of row x are put in order has room for its own and those of the elements above it
+pub record OrderedAt (rows : List RowOf) (x : ℕ) (ordered : Ordered) : Type 0 where
+  pub attributes : total (count_of rows) (upwards rows x) ≤ vec_capacity ordered.attributes
+  pub spare : total (count_of rows) (upwards rows x) ≤ vec_capacity ordered.spare
+
+-- the same for each row of a range
+pub record OrderedIn (rows : List RowOf) (first until : ℕ) (ordered : Ordered) : Type 0 where
+  pub at : (x : ℕ) → first ≤ x → x < until → OrderedAt rows x ordered

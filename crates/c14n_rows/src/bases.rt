@@ -78,7 +78,7 @@ pub(crate) fn lend(found: Found, joining: &Joining) -> Option<Base<'_>>
 }
 
 /// Whether the rule is that of Canonical XML 1.1.
-pub(crate) fn is_eleven(method: Method<'_>) -> bool
+pub(crate) fn is_eleven(method: Method<'_, '_>) -> bool
     ensures { result ≡ is_eleven (rule_of method.entry) }
 {
     matches!(method, Method::Eleven)
@@ -284,7 +284,7 @@ fn join_element(doc: &Doc<'_>, runs: &[u32], joining: &mut Joining, x: u32, b: u
 }
 
 /// Whether values are joined for row `x` where a run stands above it.
-fn joins(doc: &Doc<'_>, set: SetView<'_>, method: Method<'_>, x: u32) -> bool
+fn joins(doc: &Doc<'_>, set: SetView<'_>, method: Method<'_, '_>, x: u32) -> bool
     requires { x < length doc.now }
     ensures { result ≡ (is_eleven (rule_of method.entry)
         && (is_element (kind_of doc.now x) && imports_attributes doc.now (in_view set.entry) (rule_of method.entry) x)) }
@@ -296,7 +296,7 @@ fn joins(doc: &Doc<'_>, set: SetView<'_>, method: Method<'_>, x: u32) -> bool
 pub(crate) fn joined_base(
     doc: &Doc<'_>,
     set: SetView<'_>,
-    method: Method<'_>,
+    method: Method<'_, '_>,
     stacks: &mut Stacks,
     x: u32,
 ) -> Found

@@ -1,115 +1,85 @@
 //! The namespace octets of an element (Canonical XML 1.0 §2.3; Exclusive XML Canonicalization 1.0 §3).
-ghost use Rattle.std.specs.Prelude.{◌≡◌, ◌<◌, ◌≤◌, ◌+◌, ◌-◌, [], length, map, encode_utf8_all, IfSome};
+ghost use Rattle.std.specs.Prelude.{◌≡◌, ◌<◌, ◌≤◌, ◌+◌, ◌-◌, true, [], length, map, encode_utf8_all, IfSome};
 ghost use Rattle.std.specs.List.{list_any, flat_map, range_with_len};
 ghost use Rattle.std.specs.Str.{bytes_eq};
 ghost use Rattle.sig_base.specs.Puts.{Puts};
-ghost use Rattle.xml_doc.specs.Fields.{OwnRowsStand};
+ghost use Rattle.xml_doc.specs.Fields.{is_namespace_of, namespace_rows};
+ghost use Rattle.xml_doc.specs.Shape.{row_at};
 ghost use Rattle.node_sets.specs.View.{in_view};
 ghost use Rattle.c14n_rows.specs.Rules.{rule_of};
 ghost use Rattle.c14n_rows.specs.Code.Stacks.{FrameAt, StacksAt};
+ghost use Rattle.c14n_rows.specs.Code.Utilized.{AreMarked};
 ghost use Rattle.c14n_text.specs.Rows.{parent_of};
-ghost use Rattle.c14n_text.specs.Namespaces.{follows_inclusive_rule, has_prefix, visibly_utilizes, renders, nearest, has_binding, is_default, has_default, is_written, undeclares, declaration, row_declaration, undeclaration, namespace_octets};
+ghost use Rattle.c14n_text.specs.Namespaces.{follows_inclusive_rule, renders, nearest, has_binding, is_default, has_default, is_written, undeclares, declaration, row_declaration, undeclaration, namespace_octets};
 
+use crate::prefixes::Listed;
 use crate::stacks::{Frame, Stacks, frame_above, rendered_above};
+use crate::utilized::{utilizes_default, visibly_utilizes};
 use c14n_text::Piece::{Plain, Value};
 use c14n_text::put_all;
 use node_sets::SetView;
-use sig_base::{OctetSink, PrefixList, Put};
-use xml_doc::{Doc, OwnRows};
+use sig_base::{OctetSink, Put};
+use xml_doc::Doc;
 
 /// The rule of a canonical form.
 #[derive(Clone, Copy)]
-pub enum Method<'p> {
+pub enum Method<'l, 'p> {
     /// Canonical XML 1.0.
     Canonical,
     /// Canonical XML 1.1.
     Eleven,
     /// Exclusive XML Canonicalization 1.0, with its PrefixList.
-    Exclusive(&'p PrefixList),
-}
-
-/// Whether a PrefixList has this name.
-fn is_listed(prefixes: &PrefixList, name: &str) -> bool
-    ensures { result ≡ list_any (bytes_eq name.now) (map encode_utf8_all prefixes.now) }
-{
-    for k in 0..prefixes.len() {
-        match prefixes.get(k) {
-            Some(prefix) => {
-                if name == prefix.as_str() {
-                    return true;
-                }
-            }
-            None => return false,
-        }
-    }
-    false
+    Exclusive(&'l Listed<'p>),
 }
 
 /// Whether a prefix follows the rule of Canonical XML.
-pub(crate) fn follows_inclusive_rule(method: Method<'_>, prefix: &str) -> bool
+pub(crate) fn follows_inclusive_rule(method: Method<'_, '_>, prefix: &str) -> bool
     ensures { result ≡ follows_inclusive_rule (rule_of method.entry) prefix.now }
 {
     match method {
         Method::Canonical | Method::Eleven => true,
-        Method::Exclusive(prefixes) => {
+        Method::Exclusive(listed) => {
             if prefix.is_empty() {
-                is_listed(prefixes, "#default")
+                listed.has("#default")
             } else {
-                is_listed(prefixes, prefix)
+                listed.has(prefix)
             }
         }
     }
 }
 
-/// Whether an attribute row is in the set and has this prefix.
-fn has_prefix(doc: &Doc<'_>, set: SetView<'_>, prefix: &str, a: u32) -> bool
-    requires { a < length doc.now }
-    ensures { result ≡ has_prefix doc.now (in_view set.entry) prefix.now a }
-{
-    set.contains(a) && !doc.prefix_text(a).is_empty() && doc.prefix_text(a) == prefix
-}
-
-/// Whether one of the attribute rows from `from` to before `until` is in the set and has this prefix.
-fn any_has_prefix(doc: &Doc<'_>, set: SetView<'_>, prefix: &str, from: u32, until: u32) -> bool
-    requires { until ≤ length doc.now }
-    ensures { result ≡ list_any (has_prefix doc.now (in_view set.entry) prefix.now) (range_with_len from (until - from)) }
-{
-    for a in from..until {
-        if has_prefix(doc, set, prefix, a) {
-            return true;
-        }
-    }
-    false
-}
-
-/// Whether an element visibly utilizes a prefix (Exclusive XML Canonicalization 1.0 §1.1).
-fn visibly_utilizes(doc: &Doc<'_>, set: SetView<'_>, own: OwnRows, e: u32, prefix: &str) -> bool
-    requires here { e < length doc.now }
-    requires own { OwnRowsStand doc.now e own.first_attribute own.first_child }
-    ensures { result ≡ visibly_utilizes doc.now (in_view set.entry) e prefix.now }
-{
-    if doc.prefix_text(e) == prefix {
-        return true;
-    }
-    any_has_prefix(doc, set, prefix, own.first_attribute, own.first_child)
-}
-
-/// Whether an element is in the set and counts for a prefix: where the prefix doesn't follow the inclusive rule, by
-/// visibly utilizing it.
+/// Whether an element is in the set and counts for the prefix of its namespace row `y`: where this doesn't follow the
+/// inclusive rule, by visibly utilizing it.
 pub(crate) fn renders(
     doc: &Doc<'_>,
     set: SetView<'_>,
-    method: Method<'_>,
-    own: OwnRows,
-    prefix: &str,
+    method: Method<'_, '_>,
+    marks: &[bool],
     e: u32,
+    y: u32,
 ) -> bool
     requires here { e < length doc.now }
-    requires own { OwnRowsStand doc.now e own.first_attribute own.first_child }
-    ensures { result ≡ renders doc.now (in_view set.entry) (rule_of method.entry) prefix.now e }
+    requires row { y < length doc.now }
+    requires namespace { is_namespace_of doc.now e y ≡ true }
+    requires marked { AreMarked doc.now (in_view set) (rule_of method) e marks.now }
+    ensures { result ≡ renders doc.now (in_view set.entry) (rule_of method.entry) (row_at doc.now y).local_name e }
 {
     set.contains(e)
-        && (follows_inclusive_rule(method, prefix) || visibly_utilizes(doc, set, own, e, prefix))
+        && (follows_inclusive_rule(method, doc.local_name(y))
+            || visibly_utilizes(doc, set, marks, e, y))
+}
+
+/// The same for the default.
+pub(crate) fn renders_default(
+    doc: &Doc<'_>,
+    set: SetView<'_>,
+    method: Method<'_, '_>,
+    e: u32,
+) -> bool
+    requires { e < length doc.now }
+    ensures { result ≡ renders doc.now (in_view set.entry) (rule_of method.entry) [] e }
+{
+    set.contains(e) && (follows_inclusive_rule(method, "") || utilizes_default(doc, set, e))
 }
 
 /// Whether a namespace row is in the set and is that of the default.
@@ -151,7 +121,7 @@ fn has_default(doc: &Doc<'_>, set: SetView<'_>, element: Option<u32>) -> bool
 fn is_shown(
     doc: &Doc<'_>,
     set: SetView<'_>,
-    method: Method<'_>,
+    method: Method<'_, '_>,
     above: Frame<'_>,
     x: u32,
     prefix: &str,
@@ -173,7 +143,7 @@ fn is_shown(
 fn is_default_shown(
     doc: &Doc<'_>,
     set: SetView<'_>,
-    method: Method<'_>,
+    method: Method<'_, '_>,
     above: Frame<'_>,
     x: u32,
 ) -> bool
@@ -188,15 +158,16 @@ fn is_default_shown(
 fn is_written(
     doc: &Doc<'_>,
     set: SetView<'_>,
-    method: Method<'_>,
+    method: Method<'_, '_>,
     above: Frame<'_>,
-    own: OwnRows,
+    marks: &[bool],
     x: u32,
     y: u32,
 ) -> bool
     requires element { x < length doc.now }
     requires row { y < length doc.now }
-    requires own { OwnRowsStand doc.now x own.first_attribute own.first_child }
+    requires namespace { is_namespace_of doc.now x y ≡ true }
+    requires marked { AreMarked doc.now (in_view set) (rule_of method) x marks.now }
     requires frame { FrameAt doc.now (in_view set) (rule_of method) (parent_of doc.now x) above }
     ensures { result ≡ is_written doc.now (in_view set.entry) (rule_of method.entry) x y }
 {
@@ -204,7 +175,7 @@ fn is_written(
     set.contains(y)
         && prefix != "xml"
         && (follows_inclusive_rule(method, prefix)
-            || (set.contains(x) && visibly_utilizes(doc, set, own, x, prefix)))
+            || (set.contains(x) && visibly_utilizes(doc, set, marks, x, y)))
         && !is_shown(doc, set, method, above, x, prefix, doc.value(y))
 }
 
@@ -212,17 +183,15 @@ fn is_written(
 fn undeclares(
     doc: &Doc<'_>,
     set: SetView<'_>,
-    method: Method<'_>,
+    method: Method<'_, '_>,
     above: Frame<'_>,
-    own: OwnRows,
     x: u32,
 ) -> bool
     requires element { x < length doc.now }
-    requires own { OwnRowsStand doc.now x own.first_attribute own.first_child }
     requires frame { FrameAt doc.now (in_view set) (rule_of method) (parent_of doc.now x) above }
     ensures { result ≡ undeclares doc.now (in_view set.entry) (rule_of method.entry) x }
 {
-    renders(doc, set, method, own, "", x)
+    renders_default(doc, set, method, x)
         && !has_default(doc, set, Some(x))
         && is_default_shown(doc, set, method, above, x)
 }
@@ -251,21 +220,22 @@ fn put_declaration<'a, S: OctetSink>(prefix: &'a str, name: &'a str, sink: &mut 
 fn put_row<S: OctetSink>(
     doc: &Doc<'_>,
     set: SetView<'_>,
-    method: Method<'_>,
+    method: Method<'_, '_>,
     above: Frame<'_>,
-    own: OwnRows,
+    marks: &[bool],
     x: u32,
     y: u32,
     sink: &mut S,
 ) -> Put
     requires element { x < length doc.now }
     requires row { y < length doc.now }
-    requires own { OwnRowsStand doc.now x own.first_attribute own.first_child }
+    requires namespace { is_namespace_of doc.now x y ≡ true }
+    requires marked { AreMarked doc.now (in_view set) (rule_of method) x marks.now }
     requires frame { FrameAt doc.now (in_view set) (rule_of method) (parent_of doc.now x) above }
     ensures { Puts S.stands_for S.refusals S.makes sink.old sink.new
         (row_declaration doc.now (in_view set.entry) (rule_of method.entry) x y) result }
 {
-    if is_written(doc, set, method, above, own, x, y) {
+    if is_written(doc, set, method, above, marks, x, y) {
         put_declaration(doc.local_name(y), doc.value(y), sink)
     } else {
         Put::Done
@@ -276,46 +246,43 @@ fn put_row<S: OctetSink>(
 fn put_undeclaration<S: OctetSink>(
     doc: &Doc<'_>,
     set: SetView<'_>,
-    method: Method<'_>,
+    method: Method<'_, '_>,
     above: Frame<'_>,
-    own: OwnRows,
     x: u32,
     sink: &mut S,
 ) -> Put
     requires element { x < length doc.now }
-    requires own { OwnRowsStand doc.now x own.first_attribute own.first_child }
     requires frame { FrameAt doc.now (in_view set) (rule_of method) (parent_of doc.now x) above }
     ensures { Puts S.stands_for S.refusals S.makes sink.old sink.new (undeclaration doc.now (in_view set.entry) (rule_of method.entry) x)
         result }
 {
-    if undeclares(doc, set, method, above, own, x) {
+    if undeclares(doc, set, method, above, x) {
         put_all(&[Plain(" xmlns=\"\"")], sink)
     } else {
         Put::Done
     }
 }
 
-/// Writes those of the namespace rows of an element from `from` to before `until` that are written.
+/// Writes those of the namespace rows of an element that are written.
 fn put_rows<S: OctetSink>(
     doc: &Doc<'_>,
     set: SetView<'_>,
-    method: Method<'_>,
+    method: Method<'_, '_>,
     above: Frame<'_>,
-    own: OwnRows,
+    marks: &[bool],
     x: u32,
-    from: u32,
-    until: u32,
     sink: &mut S,
 ) -> Put
     requires element { x < length doc.now }
-    requires rows { until ≤ length doc.now }
-    requires own { OwnRowsStand doc.now x own.first_attribute own.first_child }
+    requires marked { AreMarked doc.now (in_view set) (rule_of method) x marks.now }
     requires frame { FrameAt doc.now (in_view set) (rule_of method) (parent_of doc.now x) above }
     ensures { Puts S.stands_for S.refusals S.makes sink.old sink.new
-        (flat_map (row_declaration doc.now (in_view set.entry) (rule_of method.entry) x) (range_with_len from (until - from))) result }
+        (flat_map (row_declaration doc.now (in_view set.entry) (rule_of method.entry) x) (namespace_rows doc.now x)) result }
 {
-    for y in from..until {
-        if let Put::Refused = put_row(doc, set, method, above, own, x, y, sink) {
+    let _rows = doc.rows();
+    let own = doc.own_rows(x);
+    for y in x + 1..own.first_attribute {
+        if let Put::Refused = put_row(doc, set, method, above, marks, x, y, sink) {
             return Put::Refused;
         }
     }
@@ -326,30 +293,20 @@ fn put_rows<S: OctetSink>(
 pub(crate) fn put_namespaces<S: OctetSink>(
     doc: &Doc<'_>,
     set: SetView<'_>,
-    method: Method<'_>,
+    method: Method<'_, '_>,
     stacks: &Stacks,
     x: u32,
     sink: &mut S,
 ) -> Put
     requires element { x < length doc.now }
     requires stacks { StacksAt doc.now (in_view set) (rule_of method) (parent_of doc.now x) stacks.now }
+    requires marked { AreMarked doc.now (in_view set) (rule_of method) x stacks.now.marks.items }
     ensures { Puts S.stands_for S.refusals S.makes sink.old sink.new
         (namespace_octets doc.now (in_view set.entry) (rule_of method.entry) x) result }
 {
-    let own = doc.own_rows(x);
     let above = frame_above(doc, set, method, &stacks.slots, x);
-    if let Put::Refused = put_undeclaration(doc, set, method, above, own, x, sink) {
+    if let Put::Refused = put_undeclaration(doc, set, method, above, x, sink) {
         return Put::Refused;
     }
-    put_rows(
-        doc,
-        set,
-        method,
-        above,
-        own,
-        x,
-        x + 1,
-        own.first_attribute,
-        sink,
-    )
+    put_rows(doc, set, method, above, &stacks.marks, x, sink)
 }

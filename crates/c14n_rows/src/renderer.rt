@@ -9,11 +9,12 @@ ghost use Rattle.c14n_text.specs.Canon.{canon};
 ghost use Rattle.c14n_rows.specs.Rules.{rule_of};
 ghost use Rattle.c14n_rows.specs.Joined.{BasesFit, weights};
 ghost use Rattle.c14n_rows.specs.Code.Joined.{if_base};
-ghost use Rattle.c14n_rows.specs.Stacks.{total, upwards, IsEmpty, RoomIn};
-ghost use Rattle.c14n_rows.specs.Code.Stacks.{counted_of, HasRoom, IsOpen, IsTaken};
+ghost use Rattle.c14n_rows.specs.Stacks.{total, upwards, IsEmpty, OrderedIn, RoomIn};
+ghost use Rattle.c14n_rows.specs.Code.Stacks.{counted_of, HasRoom, IsOpen, IsTaken, IsTakenFor};
 
 use crate::attributes::is_element;
 use crate::bases::{Joining, is_base};
+use crate::imports::Ordered;
 use crate::namespaces::Method;
 use crate::stacks::Stacks;
 use crate::walk::{walked_range, write_nothing, write_rows, write_walked};
@@ -28,18 +29,19 @@ use xml_doc::Doc;
 pub struct Renderer<'d> {
     doc: &'d Doc<'d>,
     stacks: Stacks,
+    ordered: Ordered,
 }
 
 impl<'d> Model for Renderer<'d> {
     ghost use Rattle.std.specs.Prelude.{List, length};
     ghost use Rattle.xml_doc.specs.Rows.{RowOf};
-    ghost use Rattle.c14n_rows.specs.Stacks.{IsEmpty, RoomIn};
+    ghost use Rattle.c14n_rows.specs.Stacks.{IsEmpty, OrderedIn, RoomIn};
 
     ghost Value = { List RowOf };
 
     ghost view = { λ r. r.doc.now };
 
-    ghost invariant = { λ r. IsEmpty r.stacks × RoomIn r.doc.now 1 (length r.doc.now) r.stacks };
+    ghost invariant = { λ r. IsEmpty r.stacks × RoomIn r.doc.now 1 (length r.doc.now) r.stacks × OrderedIn r.doc.now 1 (length r.doc.now) r.ordered };
 }
 
 /// What is counted of each row.
@@ -185,38 +187,69 @@ fn take_stacks(alloc: Global, entries: usize, octets: usize) -> Result<Stacks, N
     let slots = Vec::with_capacity(alloc, entries)?;
     let xml = Vec::with_capacity(alloc, entries)?;
     let runs = Vec::with_capacity(alloc, entries)?;
+    let marks = Vec::with_capacity(alloc, entries)?;
     let joining = buffers(alloc, octets)?;
     Ok(Stacks {
         slots,
         xml,
         runs,
+        marks,
         joining,
     })
 }
 
+/// Memory in which this many attributes are put in order.
+fn take_ordered(alloc: Global, entries: usize) -> Result<Ordered, NoMemory>
+    ensures { IfOk result (λ o. IsTakenFor entries o) }
+{
+    let attributes = Vec::with_capacity(alloc, entries)?;
+    let spare = Vec::with_capacity(alloc, entries)?;
+    Ok(Ordered { attributes, spare })
+}
+
+/// The memory of walks.
+#[derive(Drop)]
+struct Memory {
+    stacks: Stacks,
+    ordered: Ordered,
+}
+
+/// Memory for this many entries, and buffers for this many octets.
+fn take_memory(alloc: Global, entries: usize, octets: usize) -> Result<Memory, NoMemory>
+    ensures empty { IfOk result (λ m. IsEmpty m.stacks) }
+    ensures stacks { IfOk result (λ m. IsTaken entries octets m.stacks) }
+    ensures ordered { IfOk result (λ m. IsTakenFor entries m.ordered) }
+{
+    let stacks = take_stacks(alloc, entries, octets)?;
+    let ordered = take_ordered(alloc, entries)?;
+    Ok(Memory { stacks, ordered })
+}
+
 /// The memory for walks over the rows from `start` to before `until` and those above them.
-fn stacks_for(alloc: Global, doc: &Doc<'_>, start: u32, until: u32) -> Result<Stacks, NoMemory>
+fn memory_for(alloc: Global, doc: &Doc<'_>, start: u32, until: u32) -> Result<Memory, NoMemory>
     requires behind_root { 0 < start }
     requires ordered { start < until }
     requires within { until ≤ length doc.now }
-    ensures empty { IfOk result (λ s. IsEmpty s) }
-    ensures room { IfOk result (λ s. RoomIn doc.now start until s) }
+    ensures empty { IfOk result (λ m. IsEmpty m.stacks) }
+    ensures room { IfOk result (λ m. RoomIn doc.now start until m.stacks) }
+    ensures ordered_room { IfOk result (λ m. OrderedIn doc.now start until m.ordered) }
 {
     let entries = greatest_sum(doc, Counted::Entries, start, until)?;
     let octets = greatest_sum(doc, Counted::Values, start, until)?;
-    take_stacks(alloc, entries, octets)
+    take_memory(alloc, entries, octets)
 }
 
 /// The memory for walks over all rows.
-fn stacks_for_all(alloc: Global, doc: &Doc<'_>) -> Result<Stacks, NoMemory>
-    ensures empty { IfOk result (λ s. IsEmpty s) }
-    ensures room { IfOk result (λ s. RoomIn doc.now 1 (length doc.now) s) }
+fn memory_for_all(alloc: Global, doc: &Doc<'_>) -> Result<Memory, NoMemory>
+    ensures empty { IfOk result (λ m. IsEmpty m.stacks) }
+    ensures room { IfOk result (λ m. RoomIn doc.now 1 (length doc.now) m.stacks) }
+    ensures ordered_room { IfOk result (λ m. OrderedIn doc.now 1 (length doc.now) m.ordered) }
 {
     let rows = doc.rows();
     if rows > 1 {
-        stacks_for(alloc, doc, 1, rows)
+        memory_for(alloc, doc, 1, rows)
     } else {
-        take_stacks(alloc, 0, 0)
+        take_memory(alloc, 0, 0)
     }
 }
 
@@ -225,7 +258,7 @@ fn stacks_for_all(alloc: Global, doc: &Doc<'_>) -> Result<Stacks, NoMemory>
 pub fn write_once<S: OctetSink>(
     alloc: Global,
     set: SetView<'_>,
-    method: Method<'_>,
+    method: Method<'_, '_>,
     comments: bool,
     sink: &mut S,
 ) -> Result<Put, NoMemory>
@@ -237,8 +270,17 @@ pub fn write_once<S: OctetSink>(
     match walked_range(set) {
         None => Ok(write_nothing(doc, set, method, comments, sink)),
         Some(range) => {
-            let mut stacks = stacks_for(alloc, doc, range.start, range.until)?;
-            Ok(write_walked(doc, set, method, &mut stacks, comments, range, sink))
+            let mut memory = memory_for(alloc, doc, range.start, range.until)?;
+            Ok(write_walked(
+                doc,
+                set,
+                method,
+                &mut memory.stacks,
+                &mut memory.ordered,
+                comments,
+                range,
+                sink,
+            ))
         }
     }
 }
@@ -249,8 +291,12 @@ impl<'d> Renderer<'d> {
     pub fn prepare(alloc: Global, doc: &'d Doc<'d>) -> Result<Renderer<'d>, NoMemory>
         ensures { IfOk result (λ r. r ≡ doc.now) }
     {
-        let stacks = stacks_for_all(alloc, doc)?;
-        Ok(Renderer { doc, stacks })
+        let Memory { stacks, ordered } = memory_for_all(alloc, doc)?;
+        Ok(Renderer {
+            doc,
+            stacks,
+            ordered,
+        })
     }
 
     /// Writes the canonical form of a set over the document, with comments or without.
@@ -260,7 +306,7 @@ impl<'d> Renderer<'d> {
     pub fn write<S: OctetSink>(
         &mut self,
         set: SetView<'_>,
-        method: Method<'_>,
+        method: Method<'_, '_>,
         comments: bool,
         sink: &mut S,
     ) -> Put
@@ -269,7 +315,14 @@ impl<'d> Renderer<'d> {
             (canon (rule_of method.entry) comments self.old (in_view set.entry)) result }
         ensures as_prepared { self.new ≡ self.old }
     {
-        let put = write_rows(set, method, &mut self.stacks, comments, sink);
+        let put = write_rows(
+            set,
+            method,
+            &mut self.stacks,
+            &mut self.ordered,
+            comments,
+            sink,
+        );
         self.stacks.slots.clear();
         self.stacks.xml.clear();
         self.stacks.runs.clear();

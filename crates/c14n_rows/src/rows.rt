@@ -4,7 +4,9 @@ ghost use Rattle.sig_base.specs.Puts.{Puts};
 ghost use Rattle.xml_doc.specs.Shape.{row_at};
 ghost use Rattle.node_sets.specs.View.{in_view};
 ghost use Rattle.c14n_rows.specs.Rules.{rule_of};
-ghost use Rattle.c14n_rows.specs.Code.Stacks.{StacksAt};
+ghost use Rattle.c14n_rows.specs.Stacks.{OrderedAt};
+ghost use Rattle.c14n_rows.specs.Code.Stacks.{KeepsOrdered, StacksAt};
+ghost use Rattle.c14n_rows.specs.Code.Utilized.{AreMarked};
 ghost use Rattle.c14n_text.specs.Rows.{parent_of};
 ghost use Rattle.c14n_text.specs.Escapes.{pi_octets, qname};
 ghost use Rattle.c14n_text.specs.Namespaces.{namespace_octets};
@@ -14,6 +16,7 @@ ghost use Rattle.c14n_text.specs.Canon.{document_element, is_before_element, wit
 
 use crate::attributes::{is_element, put_attributes};
 use crate::bases::Base;
+use crate::imports::Ordered;
 use crate::namespaces::{Method, put_namespaces};
 use crate::stacks::Stacks;
 use c14n_text::Piece::Plain;
@@ -152,47 +155,55 @@ fn put_end_tag<S: OctetSink>(doc: &Doc<'_>, x: u32, sink: &mut S) -> Put
 fn put_fields<S: OctetSink>(
     doc: &Doc<'_>,
     set: SetView<'_>,
-    method: Method<'_>,
+    method: Method<'_, '_>,
     stacks: &Stacks,
+    ordered: &mut Ordered,
     base: Option<Base<'_>>,
     x: u32,
     sink: &mut S,
 ) -> Put
     requires here { x < length doc.now }
     requires stacks { StacksAt doc.now (in_view set) (rule_of method) (parent_of doc.now x) stacks.now }
+    requires marked { AreMarked doc.now (in_view set) (rule_of method) x stacks.now.marks.items }
+    requires ordered { OrderedAt doc.now x ordered.old }
     requires there { BaseThere doc.now base }
     requires base { base_of base ≡ joined_base doc.now (in_view set) (rule_of method) x }
-    ensures { Puts S.stands_for S.refusals S.makes sink.old sink.new
+    ensures puts { Puts S.stands_for S.refusals S.makes sink.old sink.new
         (namespace_octets doc.now (in_view set.entry) (rule_of method.entry) x
         ++ attributes_octets doc.now (in_view set.entry) (rule_of method.entry) x) result }
+    ensures kept { KeepsOrdered ordered.old ordered.new }
 {
     if let Put::Refused = put_namespaces(doc, set, method, stacks, x, sink) {
         return Put::Refused;
     }
-    put_attributes(doc, set, method, stacks, base, x, sink)
+    put_attributes(doc, set, method, stacks, ordered, base, x, sink)
 }
 
 /// Writes the start tag of an element.
 fn put_start_tag<S: OctetSink>(
     doc: &Doc<'_>,
     set: SetView<'_>,
-    method: Method<'_>,
+    method: Method<'_, '_>,
     stacks: &Stacks,
+    ordered: &mut Ordered,
     base: Option<Base<'_>>,
     x: u32,
     sink: &mut S,
 ) -> Put
     requires here { x < length doc.now }
     requires stacks { StacksAt doc.now (in_view set) (rule_of method) (parent_of doc.now x) stacks.now }
+    requires marked { AreMarked doc.now (in_view set) (rule_of method) x stacks.now.marks.items }
+    requires ordered { OrderedAt doc.now x ordered.old }
     requires there { BaseThere doc.now base }
     requires base { base_of base ≡ joined_base doc.now (in_view set) (rule_of method) x }
-    ensures { Puts S.stands_for S.refusals S.makes sink.old sink.new (start_tag doc.now (in_view set.entry) (rule_of method.entry) x)
+    ensures puts { Puts S.stands_for S.refusals S.makes sink.old sink.new (start_tag doc.now (in_view set.entry) (rule_of method.entry) x)
         result }
+    ensures kept { KeepsOrdered ordered.old ordered.new }
 {
     if let Put::Refused = put_tag_name(doc, x, sink) {
         return Put::Refused;
     }
-    if let Put::Refused = put_fields(doc, set, method, stacks, base, x, sink) {
+    if let Put::Refused = put_fields(doc, set, method, stacks, ordered, base, x, sink) {
         return Put::Refused;
     }
     put_all(&[Plain(">")], sink)
@@ -202,8 +213,9 @@ fn put_start_tag<S: OctetSink>(
 pub(crate) fn put_opening<S: OctetSink>(
     doc: &Doc<'_>,
     set: SetView<'_>,
-    method: Method<'_>,
+    method: Method<'_, '_>,
     stacks: &Stacks,
+    ordered: &mut Ordered,
     base: Option<Base<'_>>,
     comments: bool,
     element: Option<u32>,
@@ -213,19 +225,22 @@ pub(crate) fn put_opening<S: OctetSink>(
     requires here { x < length doc.now }
     requires element { element ≡ document_element doc.now }
     requires stacks { StacksAt doc.now (in_view set) (rule_of method) (parent_of doc.now x) stacks.now }
+    requires marked { AreMarked doc.now (in_view set) (rule_of method) x stacks.now.marks.items }
+    requires ordered { OrderedAt doc.now x ordered.old }
     requires there { BaseThere doc.now base }
     requires base { base_of base ≡ joined_base doc.now (in_view set) (rule_of method) x }
-    ensures { Puts S.stands_for S.refusals S.makes sink.old sink.new
+    ensures puts { Puts S.stands_for S.refusals S.makes sink.old sink.new
         (opening doc.now (in_view set.entry) (rule_of method.entry) comments x) result }
+    ensures kept { KeepsOrdered ordered.old ordered.new }
 {
     let is_in = set.contains(x);
     match doc.kind(x) {
         Kind::Root | Kind::Namespace | Kind::Attribute => Put::Done,
         Kind::Element => {
             if is_in {
-                put_start_tag(doc, set, method, stacks, base, x, sink)
+                put_start_tag(doc, set, method, stacks, ordered, base, x, sink)
             } else {
-                put_fields(doc, set, method, stacks, base, x, sink)
+                put_fields(doc, set, method, stacks, ordered, base, x, sink)
             }
         }
         Kind::Text => {

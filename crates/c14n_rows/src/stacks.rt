@@ -15,12 +15,14 @@ ghost use Rattle.c14n_text.specs.Attributes.{is_xml};
 ghost use Rattle.c14n_text.specs.Bases.{is_base};
 ghost use Rattle.c14n_rows.specs.Rules.{rule_of};
 ghost use Rattle.c14n_rows.specs.Stacks.{count_of, total, upwards, IsEmpty, RoomAt};
+ghost use Rattle.c14n_rows.specs.Code.Utilized.{AreMarked};
 ghost use Rattle.c14n_rows.specs.Code.Stacks.{frame_start, is_named, rendered, run_entries, runs_at, slots_at, xml_at, FrameAt, Keeps, SlotFits, StacksAt};
 
 use crate::attributes::{is_element, is_xml};
 use crate::bases::{Joining, is_base, is_eleven};
 use crate::names::row_named;
-use crate::namespaces::{Method, is_default, renders};
+use crate::namespaces::{Method, is_default, renders, renders_default};
+use crate::utilized::mark_utilized;
 use node_sets::SetView;
 use xml_doc::{Doc, OwnRows};
 
@@ -45,6 +47,8 @@ pub(crate) struct Stacks {
     pub slots: Vec<Slot>,
     pub xml: Vec<u32>,
     pub runs: Vec<u32>,
+    /// Of the namespace rows of the element that begins: whether an attribute of it utilizes the prefix.
+    pub marks: Vec<bool>,
     pub joining: Joining,
 }
 
@@ -63,7 +67,13 @@ fn default_row(doc: &Doc<'_>, set: SetView<'_>, from: u32, until: u32) -> Option
 }
 
 /// How many slots stand on the stack up to the own one of the parent of row `x`.
-fn frame_start(doc: &Doc<'_>, set: SetView<'_>, method: Method<'_>, slots: &[Slot], x: u32) -> usize
+fn frame_start(
+    doc: &Doc<'_>,
+    set: SetView<'_>,
+    method: Method<'_, '_>,
+    slots: &[Slot],
+    x: u32,
+) -> usize
     requires here { x < length doc.now }
     requires slots_are { slots.now ≡ slots_at doc.now (in_view set) (rule_of method) (parent_of doc.now x) }
     ensures value { result ≡ frame_start doc.now (in_view set.entry) (rule_of method.entry) (parent_of doc.now x) }
@@ -85,7 +95,7 @@ fn frame_start(doc: &Doc<'_>, set: SetView<'_>, method: Method<'_>, slots: &[Slo
 fn default_at(
     doc: &Doc<'_>,
     set: SetView<'_>,
-    method: Method<'_>,
+    method: Method<'_, '_>,
     slots: &[Slot],
     start: usize,
     x: u32,
@@ -110,7 +120,7 @@ fn default_at(
 pub(crate) fn frame_above<'s>(
     doc: &Doc<'_>,
     set: SetView<'_>,
-    method: Method<'_>,
+    method: Method<'_, '_>,
     slots: &'s [Slot],
     x: u32,
 ) -> Frame<'s>
@@ -132,7 +142,7 @@ pub(crate) fn frame_above<'s>(
 pub(crate) fn rendered_above(
     doc: &Doc<'_>,
     set: SetView<'_>,
-    method: Method<'_>,
+    method: Method<'_, '_>,
     frame: Frame<'_>,
     x: u32,
     prefix: &str,
@@ -166,27 +176,26 @@ fn if_in_set(set: SetView<'_>, y: u32) -> Option<u32>
 fn rendered_here(
     doc: &Doc<'_>,
     set: SetView<'_>,
-    method: Method<'_>,
+    method: Method<'_, '_>,
     above: Frame<'_>,
-    own: OwnRows,
+    marks: &[bool],
     x: u32,
     y: u32,
 ) -> Option<u32>
     requires below { 0 < x }
     requires here { x < length doc.now }
-    requires own { OwnRowsStand doc.now x own.first_attribute own.first_child }
     requires row { y < length doc.now }
     requires namespace { is_namespace_of doc.now x y ≡ true }
+    requires marked { AreMarked doc.now (in_view set) (rule_of method) x marks.now }
     requires frame { FrameAt doc.now (in_view set) (rule_of method) (parent_of doc.now x) above }
     ensures value { result ≡ rendered doc.now (in_view set.entry) (rule_of method.entry) (row_at doc.now y).local_name x }
     ensures there { IfSome result (λ z. z < length doc.now) }
 {
     let _rows = doc.rows();
-    let prefix = doc.local_name(y);
-    if renders(doc, set, method, own, prefix, x) {
+    if renders(doc, set, method, marks, x, y) {
         if_in_set(set, y)
     } else {
-        rendered_above(doc, set, method, above, x, prefix)
+        rendered_above(doc, set, method, above, x, doc.local_name(y))
     }
 }
 
@@ -194,7 +203,7 @@ fn rendered_here(
 fn default_here(
     doc: &Doc<'_>,
     set: SetView<'_>,
-    method: Method<'_>,
+    method: Method<'_, '_>,
     above: Option<u32>,
     own: OwnRows,
     x: u32,
@@ -208,7 +217,7 @@ fn default_here(
     ensures there { IfSome result (λ z. z < length doc.now) }
 {
     let _rows = doc.rows();
-    if renders(doc, set, method, own, "", x) {
+    if renders_default(doc, set, method, x) {
         default_row(doc, set, x + 1, own.first_attribute)
     } else {
         above
@@ -225,7 +234,7 @@ fn push_slot(slots: &mut Vec<Slot>, slot: Slot)
 }
 
 /// Puts an attribute row on the stack, which has room for it.
-fn push_row(xml: &mut Vec<u32>, a: u32)
+pub(crate) fn push_row(xml: &mut Vec<u32>, a: u32)
     requires { length xml.old.items < vec_capacity xml.old }
     ensures items { xml.new.items ≡ xml.old.items ++ a ∷ [] }
     ensures capacity { vec_capacity xml.old ≤ vec_capacity xml.new }
@@ -234,10 +243,18 @@ fn push_row(xml: &mut Vec<u32>, a: u32)
 }
 
 /// Puts the slots of an element on the stack, which has those of its parent on it.
-fn enter_slots(doc: &Doc<'_>, set: SetView<'_>, method: Method<'_>, slots: &mut Vec<Slot>, x: u32)
+fn enter_slots(
+    doc: &Doc<'_>,
+    set: SetView<'_>,
+    method: Method<'_, '_>,
+    marks: &[bool],
+    slots: &mut Vec<Slot>,
+    x: u32,
+)
     requires below { 0 < x }
     requires here { x < length doc.now }
     requires element { is_element (kind_of doc.now x) ≡ true }
+    requires marked { AreMarked doc.now (in_view set) (rule_of method) x marks.now }
     requires slots_are { slots.old.items ≡ slots_at doc.now (in_view set) (rule_of method) (parent_of doc.now x) }
     requires slots_fit { All (SlotFits doc.now) slots.old.items }
     requires room { total (count_of doc.now) (upwards doc.now x) ≤ vec_capacity slots.old }
@@ -257,13 +274,19 @@ fn enter_slots(doc: &Doc<'_>, set: SetView<'_>, method: Method<'_>, slots: &mut 
             default,
             slots: &slots[start..base],
         };
-        let near = rendered_here(doc, set, method, above, own, x, y);
+        let near = rendered_here(doc, set, method, above, marks, x, y);
         push_slot(slots, Slot { row: y, near });
     }
 }
 
 /// Takes the slots of an element from the stack.
-fn leave_slots(doc: &Doc<'_>, set: SetView<'_>, method: Method<'_>, slots: &mut Vec<Slot>, x: u32)
+fn leave_slots(
+    doc: &Doc<'_>,
+    set: SetView<'_>,
+    method: Method<'_, '_>,
+    slots: &mut Vec<Slot>,
+    x: u32,
+)
     requires below { 0 < x }
     requires here { x < length doc.now }
     requires element { is_element (kind_of doc.now x) ≡ true }
@@ -405,7 +428,7 @@ fn leave_runs(doc: &Doc<'_>, set: SetView<'_>, runs: &mut Vec<u32>, x: u32)
 }
 
 /// Puts what an element leaves for the runs on the stack, where the rule has runs.
-fn enter_run(doc: &Doc<'_>, set: SetView<'_>, method: Method<'_>, runs: &mut Vec<u32>, x: u32)
+fn enter_run(doc: &Doc<'_>, set: SetView<'_>, method: Method<'_, '_>, runs: &mut Vec<u32>, x: u32)
     requires below { 0 < x }
     requires here { x < length doc.now }
     requires element { is_element (kind_of doc.now x) ≡ true }
@@ -423,7 +446,7 @@ fn enter_run(doc: &Doc<'_>, set: SetView<'_>, method: Method<'_>, runs: &mut Vec
 }
 
 /// Takes it from the stack.
-fn leave_run(doc: &Doc<'_>, set: SetView<'_>, method: Method<'_>, runs: &mut Vec<u32>, x: u32)
+fn leave_run(doc: &Doc<'_>, set: SetView<'_>, method: Method<'_, '_>, runs: &mut Vec<u32>, x: u32)
     requires below { 0 < x }
     requires here { x < length doc.now }
     requires element { is_element (kind_of doc.now x) ≡ true }
@@ -439,11 +462,30 @@ fn leave_run(doc: &Doc<'_>, set: SetView<'_>, method: Method<'_>, runs: &mut Vec
     }
 }
 
+/// Marks the prefixes that a row's attributes utilize, before it begins.
+pub(crate) fn mark_prefixes(
+    doc: &Doc<'_>,
+    set: SetView<'_>,
+    method: Method<'_, '_>,
+    stacks: &mut Stacks,
+    x: u32,
+)
+    requires here { x < length doc.now }
+    requires stacks { StacksAt doc.now (in_view set) (rule_of method) (parent_of doc.now x) stacks.old }
+    requires room { RoomAt doc.now x stacks.old }
+    ensures stacks { StacksAt doc.now (in_view set.entry) (rule_of method.entry) (parent_of doc.now x) stacks.new }
+    ensures marked { AreMarked doc.now (in_view set.entry) (rule_of method.entry) x stacks.new.marks.items }
+    ensures joining { stacks.new.joining ≡ stacks.old.joining }
+    ensures kept { Keeps stacks.old stacks.new }
+{
+    mark_utilized(doc, set, method, &mut stacks.marks, x);
+}
+
 /// Puts what a row that begins leaves on the stacks.
 pub(crate) fn enter(
     doc: &Doc<'_>,
     set: SetView<'_>,
-    method: Method<'_>,
+    method: Method<'_, '_>,
     stacks: &mut Stacks,
     x: u32,
 )
@@ -451,12 +493,13 @@ pub(crate) fn enter(
     requires here { x < length doc.now }
     requires stacks { StacksAt doc.now (in_view set) (rule_of method) (parent_of doc.now x) stacks.old }
     requires room { RoomAt doc.now x stacks.old }
+    requires marked { AreMarked doc.now (in_view set) (rule_of method) x stacks.old.marks.items }
     ensures stacks { StacksAt doc.now (in_view set.entry) (rule_of method.entry) x stacks.new }
     ensures kept { Keeps stacks.old stacks.new }
 {
     let _rows = doc.rows();
     if is_element(doc.kind(x)) {
-        enter_slots(doc, set, method, &mut stacks.slots, x);
+        enter_slots(doc, set, method, &stacks.marks, &mut stacks.slots, x);
         enter_xml(doc, &mut stacks.xml, x);
         enter_run(doc, set, method, &mut stacks.runs, x);
     }
@@ -466,7 +509,7 @@ pub(crate) fn enter(
 pub(crate) fn leave(
     doc: &Doc<'_>,
     set: SetView<'_>,
-    method: Method<'_>,
+    method: Method<'_, '_>,
     stacks: &mut Stacks,
     x: u32,
 )
@@ -508,7 +551,7 @@ fn child_towards(doc: &Doc<'_>, top: u32, x: u32) -> u32
 pub(crate) fn enter_all(
     doc: &Doc<'_>,
     set: SetView<'_>,
-    method: Method<'_>,
+    method: Method<'_, '_>,
     stacks: &mut Stacks,
     x: u32,
 )
@@ -522,6 +565,7 @@ pub(crate) fn enter_all(
     let mut top = 0;
     while top != x {
         let next = child_towards(doc, top, x);
+        mark_prefixes(doc, set, method, stacks, next);
         enter(doc, set, method, stacks, next);
         top = next;
     }

@@ -3,17 +3,18 @@ ghost use Rattle.std.specs.Prelude.{◌≡◌, ◌<◌, ◌≤◌, ℕ, List, []
 ghost use Rattle.sig_base.specs.Puts.{Puts};
 ghost use Rattle.node_sets.specs.View.{in_view, rows_of};
 ghost use Rattle.c14n_rows.specs.Rules.{rule_of};
-ghost use Rattle.c14n_rows.specs.Stacks.{IsEmpty, RoomAt, RoomIn};
-ghost use Rattle.c14n_rows.specs.Code.Stacks.{IsNowhere, IsWalked, Keeps, OnDone, StacksAt};
+ghost use Rattle.c14n_rows.specs.Stacks.{IsEmpty, OrderedAt, OrderedIn, RoomAt, RoomIn};
+ghost use Rattle.c14n_rows.specs.Code.Stacks.{IsNowhere, IsWalked, Keeps, KeepsOrdered, OnDone, StacksAt};
 ghost use Rattle.c14n_text.specs.Rows.{is_child, parent_of};
 ghost use Rattle.c14n_text.specs.Code.Quiet.{IsQuiet, bearer};
 ghost use Rattle.c14n_text.specs.Canon.{canon, closing, document_element, opening};
 ghost use Rattle.c14n_text.specs.Code.Progress.{Progress, Closed, whole};
 
 use crate::bases::{joined_base, lend};
+use crate::imports::Ordered;
 use crate::namespaces::Method;
 use crate::rows::{put_closing, put_opening};
-use crate::stacks::{Stacks, enter, enter_all, leave};
+use crate::stacks::{Stacks, enter, enter_all, leave, mark_prefixes};
 use node_sets::SetView;
 use sig_base::{OctetSink, Put};
 use xml_doc::{Doc, Kind};
@@ -41,7 +42,7 @@ fn bearer(doc: &Doc<'_>, i: u32) -> u32
 fn close_ended<S: OctetSink>(
     doc: &Doc<'_>,
     set: SetView<'_>,
-    method: Method<'_>,
+    method: Method<'_, '_>,
     stacks: &mut Stacks,
     opened: &mut u32,
     next: u32,
@@ -70,8 +71,9 @@ fn close_ended<S: OctetSink>(
 fn open_row<S: OctetSink>(
     doc: &Doc<'_>,
     set: SetView<'_>,
-    method: Method<'_>,
+    method: Method<'_, '_>,
     stacks: &mut Stacks,
+    ordered: &mut Ordered,
     comments: bool,
     element: Option<u32>,
     x: u32,
@@ -82,14 +84,19 @@ fn open_row<S: OctetSink>(
     requires element { element ≡ document_element doc.now }
     requires stacks { StacksAt doc.now (in_view set) (rule_of method) (parent_of doc.now x) stacks.old }
     requires room { RoomAt doc.now x stacks.old }
+    requires ordered_room { OrderedAt doc.now x ordered.old }
     ensures puts { Puts S.stands_for S.refusals S.makes sink.old sink.new
         (opening doc.now (in_view set.entry) (rule_of method.entry) comments x) result }
     ensures stacks { OnDone result (StacksAt doc.now (in_view set.entry) (rule_of method.entry) x stacks.new) }
     ensures kept { Keeps stacks.old stacks.new }
+    ensures ordered_kept { KeepsOrdered ordered.old ordered.new }
 {
     let found = joined_base(doc, set, method, stacks, x);
+    mark_prefixes(doc, set, method, stacks, x);
     let base = lend(found, &stacks.joining);
-    if let Put::Refused = put_opening(doc, set, method, stacks, base, comments, element, x, sink) {
+    if let Put::Refused = put_opening(
+        doc, set, method, stacks, ordered, base, comments, element, x, sink,
+    ) {
         return Put::Refused;
     }
     enter(doc, set, method, stacks, x);
@@ -125,8 +132,9 @@ fn close_all<S: OctetSink>(
 fn write_range<S: OctetSink>(
     doc: &Doc<'_>,
     set: SetView<'_>,
-    method: Method<'_>,
+    method: Method<'_, '_>,
     stacks: &mut Stacks,
+    ordered: &mut Ordered,
     comments: bool,
     start: u32,
     until: u32,
@@ -134,6 +142,7 @@ fn write_range<S: OctetSink>(
 ) -> Put
     requires stacks { StacksAt doc.now (in_view set) (rule_of method) (parent_of doc.now start) stacks.old }
     requires room { RoomIn doc.now start until stacks.old }
+    requires ordered_room { OrderedIn doc.now start until ordered.old }
     requires behind_root { 0 < start }
     requires ordered { start < until }
     requires within { until ≤ length doc.now }
@@ -142,6 +151,7 @@ fn write_range<S: OctetSink>(
     ensures puts { Puts S.stands_for S.refusals S.makes sink.old sink.new
         (canon (rule_of method.entry) comments doc.now (in_view set.entry)) result }
     ensures kept { Keeps stacks.old stacks.new }
+    ensures ordered_kept { KeepsOrdered ordered.old ordered.new }
 {
     let _rows = doc.rows();
     let element = doc.document_element();
@@ -152,7 +162,7 @@ fn write_range<S: OctetSink>(
         }
         if is_child(doc, next) {
             if let Put::Refused = open_row(
-                doc, set, method, stacks, comments, element, next, sink,
+                doc, set, method, stacks, ordered, comments, element, next, sink,
             ) {
                 return Put::Refused;
             }
@@ -198,8 +208,9 @@ pub(crate) fn walked_range(set: SetView<'_>) -> Option<Walked>
 pub(crate) fn write_walked<S: OctetSink>(
     doc: &Doc<'_>,
     set: SetView<'_>,
-    method: Method<'_>,
+    method: Method<'_, '_>,
     stacks: &mut Stacks,
+    ordered: &mut Ordered,
     comments: bool,
     range: Walked,
     sink: &mut S,
@@ -207,9 +218,11 @@ pub(crate) fn write_walked<S: OctetSink>(
     requires walked { IsWalked doc.now (in_view set) range.start range.until }
     requires empty { IsEmpty stacks.old }
     requires room { RoomIn doc.now range.start range.until stacks.old }
+    requires ordered_room { OrderedIn doc.now range.start range.until ordered.old }
     ensures puts { Puts S.stands_for S.refusals S.makes sink.old sink.new
         (canon (rule_of method.entry) comments doc.now (in_view set.entry)) result }
     ensures kept { Keeps stacks.old stacks.new }
+    ensures ordered_kept { KeepsOrdered ordered.old ordered.new }
 {
     let _rows = doc.rows();
     enter_all(doc, set, method, stacks, doc.above(range.start));
@@ -218,6 +231,7 @@ pub(crate) fn write_walked<S: OctetSink>(
         set,
         method,
         stacks,
+        ordered,
         comments,
         range.start,
         range.until,
@@ -229,7 +243,7 @@ pub(crate) fn write_walked<S: OctetSink>(
 pub(crate) fn write_nothing<S: OctetSink>(
     doc: &Doc<'_>,
     set: SetView<'_>,
-    method: Method<'_>,
+    method: Method<'_, '_>,
     comments: bool,
     sink: &mut S,
 ) -> Put
@@ -244,20 +258,23 @@ pub(crate) fn write_nothing<S: OctetSink>(
 /// Writes the canonical form of a set, with comments or without, on stacks that are empty and have room for each row.
 pub(crate) fn write_rows<S: OctetSink>(
     set: SetView<'_>,
-    method: Method<'_>,
+    method: Method<'_, '_>,
     stacks: &mut Stacks,
+    ordered: &mut Ordered,
     comments: bool,
     sink: &mut S,
 ) -> Put
     requires empty { IsEmpty stacks.old }
     requires room { RoomIn (rows_of set) 1 (length (rows_of set)) stacks.old }
+    requires ordered_room { OrderedIn (rows_of set) 1 (length (rows_of set)) ordered.old }
     ensures puts { Puts S.stands_for S.refusals S.makes sink.old sink.new
         (canon (rule_of method.entry) comments (rows_of set.entry) (in_view set.entry)) result }
     ensures kept { Keeps stacks.old stacks.new }
+    ensures ordered_kept { KeepsOrdered ordered.old ordered.new }
 {
     let doc = set.doc();
     match walked_range(set) {
         None => write_nothing(doc, set, method, comments, sink),
-        Some(range) => write_walked(doc, set, method, stacks, comments, range, sink),
+        Some(range) => write_walked(doc, set, method, stacks, ordered, comments, range, sink),
     }
 }

@@ -12,6 +12,7 @@ use Rattle.c14n_text.specs.Namespaces.{Rule, renders}
 use Rattle.c14n_text.specs.Attributes.{xml_attributes}
 use Rattle.c14n_text.specs.Code.Quiet.{IsQuiet}
 use Rattle.c14n_text.specs.Bases.{is_eleven, bases, with_bases}
+use Rattle.c14n_rows.specs.declared.imports.Ordered.{Ordered}
 use Rattle.c14n_rows.specs.declared.stacks.Frame.{Frame}
 use Rattle.c14n_rows.specs.declared.stacks.Slot.{Slot}
 use Rattle.c14n_rows.specs.declared.stacks.Stacks.{Stacks}
@@ -129,16 +130,26 @@ pub record IsTaken (entries values : ℕ) (stacks : Stacks) : Type 0 where
   pub slots : entries ≤ vec_capacity stacks.slots
   pub xml : entries ≤ vec_capacity stacks.xml
   pub runs : entries ≤ vec_capacity stacks.runs
+  pub marks : entries ≤ vec_capacity stacks.marks
   pub octets : stacks.joining.room ≡ values
   pub fit : BasesFit stacks.joining
+
+pub record IsTakenFor (entries : ℕ) (ordered : Ordered) : Type 0 where
+  pub attributes : entries ≤ vec_capacity ordered.attributes
+  pub spare : entries ≤ vec_capacity ordered.spare
 
 -- no room was lost
 pub record Keeps (old new : Stacks) : Type 0 where
   pub slots : vec_capacity old.slots ≤ vec_capacity new.slots
   pub xml : vec_capacity old.xml ≤ vec_capacity new.xml
   pub runs : vec_capacity old.runs ≤ vec_capacity new.runs
+  pub marks : vec_capacity old.marks ≤ vec_capacity new.marks
   pub octets : old.joining.room ≡ new.joining.room
   pub fit : BasesFit old.joining → BasesFit new.joining
+
+pub record KeepsOrdered (old new : Ordered) : Type 0 where
+  pub attributes : vec_capacity old.attributes ≤ vec_capacity new.attributes
+  pub spare : vec_capacity old.spare ≤ vec_capacity new.spare
 
 -- a walk from row `start` to before row `until` meets each row that writes something for a set
 pub record IsWalked (rows : List RowOf) (set : ℕ → Bool) (start until : ℕ) : Type 0 where

@@ -87,6 +87,7 @@ returns-in-Some-clause-kept c = record {
   slots = omega arith;
   xml = omega arith;
   runs = omega arith;
+  marks = omega arith;
   octets = sym c.join_element.ensures.room;
   fit = λ (f : BasesFit c.args.stacks.now.joining). c.join_element.ensures.fit;
 }

@@ -22,6 +22,7 @@ returns-then-is_element-clause-kept c = record {
   slots = c.enter_slots.ensures.capacity;
   xml = c.enter_xml.ensures.capacity;
   runs = c.enter_run.ensures.capacity;
+  marks = omega arith;
   octets = refl;
   fit = λ (f : BasesFit c.args.stacks.now.joining). f;
 }

@@ -22,6 +22,7 @@ returns-then-is_element-clause-kept c = record {
   slots = let e = c.leave_slots.ensures.capacity in omega arith;
   xml = let e = c.leave_xml.ensures.capacity in omega arith;
   runs = let e = c.leave_run.ensures.capacity in omega arith;
+  marks = omega arith;
   octets = refl;
   fit = λ (f : BasesFit c.args.stacks.now.joining). f;
 }

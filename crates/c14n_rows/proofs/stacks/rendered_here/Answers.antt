@@ -15,7 +15,7 @@ returns-then-renders-clause-value c =
     let rows = c.args.doc.now in let w = c.rows-rows.ensures.shaped in let set = in_view c.args.set in let rule = rule_of c.args.method in let x = c.args.x in
     let p = (row_at rows c.args.y).local_name in
     let pos = c.requires.below in
-    let counts : renders rows set rule p x ≡ true = sym (c.if-renders.ensures ∙ ap (λ (q : List ℕ). renders rows set rule q x) c.local_name-prefix.ensures) in
+    let counts : renders rows set rule p x ≡ true = sym c.if-renders.ensures in
     c.if_in_set.ensures.value
     ∙ sym (rendered-more rows set rule p w x (λ (z : x ≡ 0). omega arith) c.requires.here
     ∙ ap (λ (t : Bool). named_in rows set p (cond t (Some x) (find (renders rows set rule p) (upwards rows (parent_of rows x))))) counts
@@ -26,7 +26,7 @@ returns-else-renders-clause-value c =
     let rows = c.args.doc.now in let w = c.rows-rows.ensures.shaped in let set = in_view c.args.set in let rule = rule_of c.args.method in let x = c.args.x in
     let p = (row_at rows c.args.y).local_name in
     let pos = c.requires.below in
-    let counts : renders rows set rule p x ≡ false = sym (c.if-renders.ensures ∙ ap (λ (q : List ℕ). renders rows set rule q x) c.local_name-prefix.ensures) in
-    c.rendered_above.ensures.value ∙ ap (λ (q : List ℕ). rendered rows set rule q (parent_of rows x)) c.local_name-prefix.ensures
+    let counts : renders rows set rule p x ≡ false = sym c.if-renders.ensures in
+    c.rendered_above.ensures.value ∙ ap (λ (q : List ℕ). rendered rows set rule q (parent_of rows x)) c.local_name.ensures
     ∙ sym (rendered-more rows set rule p w x (λ (z : x ≡ 0). omega arith) c.requires.here
     ∙ ap (λ (t : Bool). named_in rows set p (cond t (Some x) (find (renders rows set rule p) (upwards rows (parent_of rows x))))) counts)

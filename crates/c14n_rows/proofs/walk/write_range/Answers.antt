@@ -8,7 +8,7 @@ use Rattle.c14n_text.proofs.QuietRows.{no_opening, no_closing}
 use Rattle.c14n_text.proofs.TreeLemmas.{parent-is_open}
 use Rattle.c14n_text.proofs.RowTree.{tree_of}
 use Rattle.c14n_rows.proofs.Chains.{parent_there}
-use Rattle.c14n_rows.proofs.StacksLemmas.{keeps-all, keeps-then, room-kept}
+use Rattle.c14n_rows.proofs.StacksLemmas.{keeps-all, keeps-then, keeps_ordered-all, keeps_ordered-then, ordered_in-kept, room-kept}
 use Rattle.c14n_rows.proofs.walk.write_range.Goals as goal
 use Rattle.c14n_rows.proofs.walk.write_range.Goals.{then-is_child+in_default-open_row, else-is_child}
 
@@ -22,6 +22,7 @@ loop-next-init g c =
       here = parent_there rows w c.args.start there;
       stacks = c.requires.stacks;
       kept = keeps-all c.args.stacks.now;
+      ordered_kept = keeps_ordered-all c.args.ordered.now;
       walked = begins_at rows w (opening rows set rule c.args.comments) (closing rows set) _ _ _ c.args.sink.now c.args.start c.requires.behind_root there
           (λ (x : ℕ) (lt : x < c.args.start). no_opening rows w set rule c.args.comments x (before x lt)) (λ (x : ℕ) (lt : x < c.args.start). no_closing rows w set rule c.args.comments x (before x lt));
     })
@@ -49,9 +50,9 @@ loop-next-preserved g c =
     let below = next_is_below rows w o (closing rows set) _ _ _ _ next closed.0 lt closed.1 in
     elim c.if-is_child.branch [
       | then-is_child+in_default-open_row b ↦
-          rw (b.sink-is, b.opened-is, b.stacks-is) (record { here = lt; stacks = b.in_default-open_row.ensures.stacks; kept = keeps-then c.args.stacks.now c.close_ended.new.stacks _ (keeps-then c.args.stacks.now c.loop-next.stacks c.close_ended.new.stacks c.loop-next.invariant.kept c.in_default.ensures.kept) b.in_default-open_row.ensures.kept; walked = opens rows w o (closing rows set) _ _ _ _ next closed.0 lt below (sym b.if-is_child.ensures) b.in_default-open_row.ensures.puts.by })
+          rw (b.sink-is, b.opened-is, b.stacks-is, b.ordered-is) (record { here = lt; ordered_kept = keeps_ordered-then c.args.ordered.now c.loop-next.ordered _ c.loop-next.invariant.ordered_kept b.in_default-open_row.ensures.ordered_kept; stacks = b.in_default-open_row.ensures.stacks; kept = keeps-then c.args.stacks.now c.close_ended.new.stacks _ (keeps-then c.args.stacks.now c.loop-next.stacks c.close_ended.new.stacks c.loop-next.invariant.kept c.in_default.ensures.kept) b.in_default-open_row.ensures.kept; walked = opens rows w o (closing rows set) _ _ _ _ next closed.0 lt below (sym b.if-is_child.ensures) b.in_default-open_row.ensures.puts.by })
       | else-is_child b ↦
-          rw (b.sink-is, b.opened-is, b.stacks-is) (record { stacks = c.in_default.ensures.stacks; kept = keeps-then c.args.stacks.now c.loop-next.stacks c.close_ended.new.stacks c.loop-next.invariant.kept c.in_default.ensures.kept; here = let begun = closed.0.stands.begun in omega arith; walked = passes rows w o (closing rows set) _ _ _ _ next closed.0 lt below (sym b.if-is_child.ensures) })
+          rw (b.sink-is, b.opened-is, b.stacks-is, b.ordered-is) (record { ordered_kept = c.loop-next.invariant.ordered_kept; stacks = c.in_default.ensures.stacks; kept = keeps-then c.args.stacks.now c.loop-next.stacks c.close_ended.new.stacks c.loop-next.invariant.kept c.in_default.ensures.kept; here = let begun = closed.0.stands.begun in omega arith; walked = passes rows w o (closing rows set) _ _ _ _ next closed.0 lt below (sym b.if-is_child.ensures) })
     ]
 
 pub returns-clause-puts : goal.returns-clause-puts
@@ -88,3 +89,11 @@ returns-in-Refused-clause-kept g c = keeps-then c.args.stacks.now c.loop-next.st
 pub returns-in-Refused-open_row-clause-kept : goal.returns-in-Refused-open_row-clause-kept
 returns-in-Refused-open_row-clause-kept g c =
     keeps-then c.args.stacks.now c.close_ended.new.stacks _ (keeps-then c.args.stacks.now c.loop-next.stacks c.close_ended.new.stacks c.loop-next.invariant.kept c.in_default.ensures.kept) c.in-Refused-open_row.ensures.kept
+
+pub open_row-requires-clause-ordered_room : goal.open_row-requires-clause-ordered_room
+open_row-requires-clause-ordered_room g c =
+    let kept = ordered_in-kept c.args.doc.now c.args.start c.args.until c.args.ordered.now c.loop-next.ordered c.loop-next.invariant.ordered_kept c.requires.ordered_room in
+    kept.at c.loop-next.next c.loop-next.auto.next c.loop-next-test.true
+
+pub returns-in-Refused-open_row-clause-ordered_kept : goal.returns-in-Refused-open_row-clause-ordered_kept
+returns-in-Refused-open_row-clause-ordered_kept g c = keeps_ordered-then c.args.ordered.now c.loop-next.ordered _ c.loop-next.invariant.ordered_kept c.in-Refused-open_row.ensures.ordered_kept

@@ -1,0 +1,26 @@
+use Rattle.std.proofs.Common.{refl, arith}
+use Rattle.c14n_rows.specs.Joined.{BasesFit}
+use Rattle.c14n_rows.proofs.stacks.mark_prefixes.Goals as goal
+
+pub returns-clause-stacks : goal.returns-clause-stacks
+returns-clause-stacks c =
+    let h = c.requires.stacks in
+    record {
+      slots_are = h.slots_are;
+      slots_fit = h.slots_fit;
+      xml_are = h.xml_are;
+      xml_fit = h.xml_fit;
+      runs_are = h.runs_are;
+      runs_fit = h.runs_fit;
+      is_joined = h.is_joined;
+    }
+
+pub returns-clause-kept : goal.returns-clause-kept
+returns-clause-kept c = record {
+  slots = omega arith;
+  xml = omega arith;
+  runs = omega arith;
+  marks = c.mark_utilized.ensures.capacity;
+  octets = refl;
+  fit = λ (f : BasesFit c.args.stacks.now.joining). f;
+}
