@@ -13,7 +13,6 @@ pub type PathSteps = Items<PathStep>;
 
 /// An expression (XPath 1.0 §3). A part in parentheses is the expression within.
 #[cycle(expr)]
-#[derive(Drop)]
 pub enum Expr {
     /// Two operands with an operator between them. Those of one rank group from the left.
     Binary {
@@ -51,6 +50,33 @@ pub enum Expr {
         /// The steps, in order, with the abbreviations written out (XPath 1.0 §2.5).
         steps: PathSteps,
     },
+}
+
+// The operands on the left of one another are as many as a text has room for, so they are let go by a loop. The others are as
+// few as ranks and brackets nest, and take calls.
+impl Drop for Expr {
+    #[cycle(expr)]
+    fn drop(mut self) {
+        loop {
+            match self {
+                Expr::Binary { op: _, left, right } => {
+                    drop(right);
+                    self = left.into_inner();
+                }
+                Expr::Negate(operand) => self = operand.into_inner(),
+                Expr::Literal(_) | Expr::Number(_) => return,
+                Expr::Call { function: _, args } => return drop(args),
+                Expr::Filtered { base, predicates } => {
+                    drop(predicates);
+                    self = base.into_inner();
+                }
+                Expr::Path { start, steps } => {
+                    drop(steps);
+                    return drop(start);
+                }
+            }
+        }
+    }
 }
 
 /// Where a path begins.
