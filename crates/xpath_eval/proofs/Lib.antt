@@ -1,4 +1,5 @@
 pub mod Gatherings
+pub mod Independence
 pub mod Limits
 pub mod Nearest
 pub mod NodeOrder

@@ -4,3 +4,4 @@ pub mod Enough
 pub mod Gathering
 pub mod Meaning
 pub mod Outcome
+pub mod Reads

@@ -7,6 +7,7 @@ pub mod Arithmetic
 pub mod Comparisons
 pub mod Functions
 pub mod Meaning
+pub mod Reads
 pub mod Outcome
 pub mod Value
 pub mod Code

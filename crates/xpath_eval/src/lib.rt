@@ -14,6 +14,7 @@ mod laws;
 mod node_test;
 mod nodes;
 mod operator;
+mod reads;
 mod refusal;
 mod scene;
 mod sums;
@@ -21,6 +22,6 @@ mod value;
 mod waiting;
 mod wording;
 
-pub use laws::document_order;
+pub use laws::{document_order, independent_of_context};
 pub use refusal::EvalRefusal;
 pub use value::{Value, eval, filter_each};

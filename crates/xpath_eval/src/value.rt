@@ -1,14 +1,16 @@
 //! Evaluation for callers.
-ghost use Rattle.std.specs.Prelude.{◌≡◌, ◌<◌, length, IfOk, IfSome};
+ghost use Rattle.std.specs.Prelude.{◌≡◌, ◌<◌, false, length, IfOk, IfSome};
 ghost use Rattle.node_sets.specs.Members.{has};
 ghost use Rattle.xpath_eval.specs.Code.Context.{AreRows};
 ghost use Rattle.xpath_eval.specs.Meaning.{meaning};
+ghost use Rattle.xpath_eval.specs.Reads.{reads_context};
 ghost use Rattle.xpath_eval.specs.Code.Outcome.{Answers};
 ghost use Rattle.xpath_eval.specs.Value.{Gives, Keeps, alone, each_true, selected, truth_at};
 
 use crate::evaluation::evaluate;
 use crate::found::{Found, truth_of};
 use crate::nodes::{insert_all, rows_of};
+use crate::reads::reads_context;
 use crate::refusal::EvalRefusal;
 use crate::scene::Scene;
 use node_sets::NodeSet;
@@ -112,9 +114,54 @@ fn selected(
     Ok(kept)
 }
 
+/// All of the rows or none, as an expression that doesn't read the context is true as a boolean or not. Where there is no
+/// row, it isn't evaluated.
+fn all_or_none(
+    alloc: Global,
+    expr: &Expr,
+    doc: &Doc<'_>,
+    ys: Items<u32>,
+    here: Option<u32>,
+) -> Result<Items<u32>, EvalRefusal>
+    requires unread { reads_context expr.now ≡ false }
+    requires rows { AreRows doc.now ys }
+    requires here { IfSome here (λ h. h < length doc.now) }
+    ensures value { Answers result (selected (truth_at expr.now doc.now here) ys) }
+    ensures rows { IfOk result (AreRows doc.now) }
+{
+    match ys.as_slice().first() {
+        Some(y) => {
+            let is_true = is_true_at(alloc, expr, doc, *y, here)?;
+            Ok(if is_true { ys } else { Items::new(alloc) })
+        }
+        None => Ok(ys),
+    }
+}
+
+/// The rows at which an expression is true as a boolean. One that doesn't read the context is evaluated once for all.
+fn chosen(
+    alloc: Global,
+    expr: &Expr,
+    doc: &Doc<'_>,
+    ys: Items<u32>,
+    here: Option<u32>,
+) -> Result<Items<u32>, EvalRefusal>
+    requires rows { AreRows doc.now ys }
+    requires here { IfSome here (λ h. h < length doc.now) }
+    ensures value { Answers result (selected (truth_at expr.now doc.now here) ys) }
+    ensures rows { IfOk result (AreRows doc.now) }
+{
+    if reads_context(expr) {
+        selected(alloc, expr, doc, ys.as_slice(), here)
+    } else {
+        all_or_none(alloc, expr, doc, ys, here)
+    }
+}
+
 /// Keeps the rows of a set at which an expression is true as a boolean, with position and size 1.
 ///
 /// It is evaluated for the rows in document order, and the first refusal is the answer. A refusal leaves the set unchanged.
+/// An expression that doesn't read the context, such as `count(//a) > 5`, is evaluated once for all rows.
 pub fn filter_each<'d>(
     alloc: Global,
     expr: &Expr,
@@ -126,7 +173,7 @@ pub fn filter_each<'d>(
 {
     let doc = set.doc();
     let rows = rows_of(alloc, set)?;
-    let ys = selected(alloc, expr, doc, rows.as_slice(), here)?;
+    let ys = chosen(alloc, expr, doc, rows, here)?;
     let mut kept = NodeSet::empty(alloc, doc)?;
     insert_all(&mut kept, ys.as_slice());
     *set = kept;
