@@ -1,12 +1,12 @@
 -- The definitions at small documents, computed. The first is
 --     <a xmlns="u:a" p="1"><q:b xmlns:q="u:q" q:c="2"/>t</a>
-use Rattle.std.proofs.Common.{◌≡◌, ℕ, Bool, true, false, List, [], ◌∷◌, Some, None, refl}
+use Rattle.std.proofs.Common.{◌≡◌, ℕ, true, false, List, [], ◌∷◌, Some, None, refl}
 use Rattle.std.specs.Prelude.{codes}
 use Rattle.std.specs.Str.{chars}
 use Rattle.xml_names.specs.Characters.{is_name_start, is_name_char}
 use Rattle.xml_names.specs.Names.{qname_of, is_ncname}
 use Rattle.xml_names.specs.Scopes.{xml_name, declared_fault}
-use Rattle.xml_doc.specs.Rows.{RowOf, plain_row}
+use Rattle.xml_doc.specs.Rows.{plain_row}
 use Rattle.xml_doc.specs.declared.row.Kind.TheVariants as kinds
 use Rattle.xml_syntax.specs.Tree.{Attribute, Content, nothing, text, instruction, element}
 use Rattle.xml_resolve.specs.Resolve.{Name, Resolved, nothing_in, text_in, element_in, declared_in, found_above, bound_above, declared_by, element_name, named_by, resolve_tag, resolve}

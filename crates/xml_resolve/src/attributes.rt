@@ -1,5 +1,5 @@
 //! What the attributes of a tag declare and name.
-ghost use Rattle.std.specs.Prelude.{◌≡◌, [], map, Some, option_map};
+ghost use Rattle.std.specs.Prelude.{◌≡◌, [], map, Some, Err, option_map, IfOk, IfSome, OnErr};
 ghost use Rattle.std.specs.List.{list_any};
 ghost use Rattle.std.specs.BTreeMap.{insert_entry};
 ghost use Rattle.xml_names.specs.Names.{qname_of};
@@ -12,7 +12,8 @@ ghost use Rattle.xml_resolve.specs.Table.{bindings_behind, bound_by, declares, o
 
 use crate::bindings::Bindings;
 use crate::fault::RowFault;
-use crate::rows::{Attributes, kept};
+use crate::names::is_behind;
+use crate::rows::{Attributes, Named, kept};
 use bumpalo::Bump;
 use std::alloc::Global;
 use std::collections::BTreeMap;
@@ -123,6 +124,42 @@ fn add_attribute<'a>(
         Ok(_) => Ok(()),
         Err(_) => Err(RowFault::Memory),
     }
+}
+
+/// The attributes of a tag that are no declarations, if they can be resolved and stand in order as they are written, as in a
+/// canonical form.
+#[tactic(auto, unfolding(crate::specs::Table::ordered_behind))]
+pub(crate) fn rising<'a>(
+    alloc: Global,
+    bump: &'a Bump,
+    bindings: &Bindings<'a>,
+    attributes: &[Attribute<'a>],
+) -> Result<Option<Vec<Named<'a>>>, RowFault>
+    ensures ok { IfOk result (λ found. IfSome found (λ list.
+        ordered_behind (bound_by bindings.now) [] (seen_attributes attributes.now) ≡ Some (map attribute_of list.items))) }
+    ensures err { OnErr result (result ≡ Err RowFault.Memory) }
+{
+    let mut list: Vec<Named<'a>> = Vec::with_capacity(alloc, attributes.len())?;
+    let mut last = None;
+    for attribute in attributes {
+        let Some((prefix, local)) = split_qname(attribute.name) else {
+            return Ok(None);
+        };
+        if !is_declaration(prefix, local) {
+            let Some(uri) = attribute_uri(bindings, prefix) else {
+                return Ok(None);
+            };
+            if !is_behind(last, uri, local) {
+                return Ok(None);
+            }
+            let Ok(value) = kept(bump, &attribute.value) else {
+                return Err(RowFault::Memory);
+            };
+            list.push(((uri, local), (prefix, value)))?;
+            last = Some((uri, local));
+        }
+    }
+    Ok(Some(list))
 }
 
 /// The attributes of a tag that are no declarations, in order.

@@ -1,5 +1,5 @@
 //! The rows of a document, from its events.
-ghost use Rattle.std.specs.Prelude.{◌≡◌, ◌≤◌, [], ◌∷◌, length, option_map};
+ghost use Rattle.std.specs.Prelude.{◌≡◌, ◌<◌, ◌≤◌, [], ◌∷◌, length, reverse, option_map, IfSome, MatchOption};
 ghost use Rattle.xml_syntax.specs.Seen.{seen, seen_all, seen_tag};
 ghost use Rattle.xml_syntax.specs.Tree as tree;
 ghost use Rattle.xml_syntax.specs.Tree.{Content};
@@ -10,12 +10,12 @@ ghost use Rattle.xml_resolve.specs.SeenRows.{Builds, Finds, Makes, seen_open};
 ghost use Rattle.xml_resolve.specs.Code.SeenRows.{AddsFound, Fills, TakesEvent};
 ghost use Rattle.xml_resolve.specs.Table.{all_rows, bound_by, built, no_stack, tag_rows};
 
-use crate::attributes::{bindings_behind, declares_any, ordered};
+use crate::attributes::{bindings_behind, declares_any, ordered, rising};
 use crate::bindings::Bindings;
 use crate::fault::RowFault;
 use crate::open::OpenElements;
 use crate::rows::{
-    close_row, plain, push_attributes, push_namespaces, push_node, push_row, push_text,
+    close_row, plain, push_attributes, push_namespaces, push_node, push_rising, push_row, push_text,
 };
 use bumpalo::Bump;
 use std::alloc::Global;
@@ -90,8 +90,13 @@ fn push_tag<'a>(
     let number = rows.len() as u32;
     push_element(rows, parent, bindings, tag)?;
     push_namespaces(rows, number, bindings.pairs())?;
-    let attributes = ordered(alloc, bump, bindings, &tag.attributes)?;
-    push_attributes(rows, number, &attributes)
+    match rising(alloc, bump, bindings, &tag.attributes)? {
+        Some(list) => push_rising(rows, number, &list),
+        None => {
+            let attributes = ordered(alloc, bump, bindings, &tag.attributes)?;
+            push_attributes(rows, number, &attributes)
+        }
+    }
 }
 
 /// Adds the rows of a tag, and opens its element.
@@ -173,6 +178,43 @@ fn fill<'a>(
     Ok(())
 }
 
+/// After how many events the memory of those that were taken is given back.
+const SHARE: usize = 4096;
+
+/// Takes the first of the events that are left, of which the list has the first last.
+fn next_event<'a>(left: &mut Vec<Event<'a>>) -> Option<Event<'a>>
+    ensures first { MatchOption result (left.old.items ≡ [])
+        (λ event. reverse left.old.items ≡ event ∷ reverse left.new.items) }
+    ensures fewer { IfSome result (λ _. length left.new.items < length left.old.items) }
+{
+    let event = left.pop();
+    if left.len() % SHARE == 0 {
+        left.shrink_to_fit();
+    }
+    event
+}
+
+/// Adds the rows that stand below the root. Each event is let go once it is taken.
+#[tactic(auto, unfolding(crate::specs::Table::built))]
+fn fill_from<'a>(
+    alloc: Global,
+    bump: &'a Bump,
+    rows: &mut RowList<'a>,
+    events: Vec<Event<'a>>,
+) -> Result<(), RowFault>
+    requires { length rows.old ≤ row_limit }
+    ensures { Fills result rows.new (built no_stack rows.old (seen_all events.entry.items)) }
+{
+    let first = Bindings::first(alloc)?;
+    let mut elements = OpenElements::new(alloc);
+    let mut left = events;
+    left.reverse();
+    while let Some(event) = next_event(&mut left) {
+        take_event(alloc, bump, &first, &mut elements, rows, &event)?;
+    }
+    Ok(())
+}
+
 /// All rows that the events make.
 fn build<'a>(alloc: Global, bump: &'a Bump, events: &[Event<'a>]) -> Result<RowList<'a>, RowFault>
     ensures { Makes result (all_rows (seen_all events.now)) }
@@ -180,6 +222,21 @@ fn build<'a>(alloc: Global, bump: &'a Bump, events: &[Event<'a>]) -> Result<RowL
     let mut rows = RowList::new(alloc);
     push_row(&mut rows, plain(Kind::Root, 0, 0, "", ""))?;
     fill(alloc, bump, &mut rows, events)?;
+    close_row(&mut rows, 0, 0);
+    Ok(rows)
+}
+
+/// The same, of events that are let go.
+fn build_from<'a>(
+    alloc: Global,
+    bump: &'a Bump,
+    events: Vec<Event<'a>>,
+) -> Result<RowList<'a>, RowFault>
+    ensures { Makes result (all_rows (seen_all events.entry.items)) }
+{
+    let mut rows = RowList::new(alloc);
+    push_row(&mut rows, plain(Kind::Root, 0, 0, "", ""))?;
+    fill_from(alloc, bump, &mut rows, events)?;
     close_row(&mut rows, 0, 0);
     Ok(rows)
 }
@@ -200,4 +257,21 @@ pub fn build_rows<'a>(
     ensures tree { (t : Content) (r : Resolved) → seen_all events.now ≡ tree.events t → resolve [] t ≡ Some r → Builds result (rows_of r) }
 {
     build(alloc, bump, events)
+}
+
+/// The same rows as [`build_rows`] makes. Events and rows are not held together: the memory of events that were taken is given back
+/// while rows are made.
+///
+/// # Errors
+///
+/// As those of [`build_rows`].
+pub fn build_rows_from<'a>(
+    alloc: Global,
+    bump: &'a Bump,
+    events: Vec<Event<'a>>,
+) -> Result<RowList<'a>, RowFault>
+    ensures exact { Makes result (all_rows (seen_all events.entry.items)) }
+    ensures tree { (t : Content) (r : Resolved) → seen_all events.entry.items ≡ tree.events t → resolve [] t ≡ Some r → Builds result (rows_of r) }
+{
+    build_from(alloc, bump, events)
 }

@@ -75,6 +75,10 @@ fn expect_document<'a>(
     let events = events(alloc, text)?;
     assert_eq!(rt; depth_of(&events), 2);
     match build_rows(alloc, bump, &events) {
+        Ok(rows) => expect_rows(rt, &rows)?,
+        Err(_) => panic!(rt),
+    }
+    match build_rows_from(alloc, bump, events) {
         Ok(rows) => expect_rows(rt, &rows),
         Err(_) => panic!(rt),
     }

@@ -102,6 +102,7 @@ pub fn attributes<'a>(
         let next = attribute(alloc, cursor)?;
         list.push(next)?;
     }
+    list.shrink_to_fit();
     Ok(list)
 }
 
