@@ -1,2 +1,3 @@
+mod BoundLaws
 mod Known
 mod WorkedExamples

@@ -3,7 +3,7 @@ ghost use Rattle.std.specs.Prelude.{◌≡◌, ◌↔◌, ◌+◌, ◌<◌, [], 
 ghost use Rattle.sig_outside.specs.Counted.{one_more};
 ghost use Rattle.sig_outside.specs.Bounds.{octets_of};
 
-use crate::named::{Named, copy_named};
+use crate::mem_keeper::MemKeeper;
 use crate::{Kept, ViewKeeper};
 use std::alloc::Global;
 use std::marker::Model;
@@ -11,11 +11,9 @@ use std::marker::Model;
 /// A keeper in memory, which tells its pairs and holds views up to so many octets together.
 #[derive(Drop)]
 pub struct BoundKeeper {
-    alloc: Global,
-    entries: Vec<Named>,
+    keeper: MemKeeper,
     cap: u64,
     held: u64,
-    faults: u64,
 }
 
 impl Model for BoundKeeper {
@@ -35,11 +33,9 @@ impl BoundKeeper {
         ensures { result ≡ record { pairs = []; cap = cap; faults = 0 } }
     {
         BoundKeeper {
-            alloc,
-            entries: Vec::new(alloc),
+            keeper: MemKeeper::new(alloc),
             cap,
             held: 0,
-            faults: 0,
         }
     }
 }
@@ -61,29 +57,20 @@ impl ViewKeeper for BoundKeeper {
     {
         let count = bytes.len() as u64;
         if count > self.cap - self.held {
-            self.faults = self.faults.saturating_add(1);
-            return Kept::Failed;
+            return self.keeper.refuse();
         }
-        let Ok(entry) = copy_named(self.alloc, name, bytes) else {
-            return Kept::NoMemory;
-        };
-        match self.entries.push(entry) {
-            Ok(()) => {
-                self.held += count;
-                Kept::Done
-            }
-            Err(_) => Kept::NoMemory,
+        let kept = self.keeper.take(name, bytes);
+        if let Kept::Done = kept {
+            self.held += count;
         }
+        kept
     }
 
     fn faults_now(&self) -> u64 {
-        self.faults
+        self.keeper.faults_now()
     }
 
     fn entry(&self, k: usize) -> Option<(&str, &[u8])> {
-        match self.entries.get(k) {
-            Some(entry) => Some((entry.name.as_str(), entry.bytes.as_slice())),
-            None => None,
-        }
+        self.keeper.entry(k)
     }
 }

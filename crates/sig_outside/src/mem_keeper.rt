@@ -1,6 +1,7 @@
 //! A keeper in memory.
 ghost use Rattle.std.specs.Prelude.{◌≡◌, ◌↔◌, ◌++◌, [], ◌∷◌, Some, Contains, OnOk, OnErr};
 ghost use Rattle.sig_outside.specs.Counted.{one_more};
+ghost use Rattle.sig_outside.specs.Keeps.{KeepCounts};
 
 use crate::named::{Named, copy_named, is_listed};
 use crate::{Kept, ViewKeeper};
@@ -49,10 +50,20 @@ impl MemKeeper {
         self.failing.push(k)?;
         Ok(())
     }
+
+    /// Answers that a view can't be kept, and counts that.
+    pub(crate) fn refuse(&mut self) -> Kept
+        ensures answer { result ≡ Kept.Failed }
+        ensures counted { self.new ≡ record self.old { faults = one_more self.old.faults } }
+        ensures cause { KeepCounts Kept.Failed self.old.faults self.new.faults }
+    {
+        self.faults = self.faults.saturating_add(1);
+        Kept::Failed
+    }
 }
 
 impl ViewKeeper for MemKeeper {
-    ghost use Rattle.sig_outside.specs.Keeps.{Keeps, KeepCounts};
+    ghost use Rattle.sig_outside.specs.Keeps.{Keeps};
 
     ghost pairs = { λ s. Some s.pairs };
 
@@ -70,8 +81,7 @@ impl ViewKeeper for MemKeeper {
         let call = self.calls;
         self.calls = call.saturating_add(1);
         if is_listed(&self.failing, call) {
-            self.faults = self.faults.saturating_add(1);
-            return Kept::Failed;
+            return self.refuse();
         }
         let Ok(entry) = copy_named(self.alloc, name, bytes) else {
             return Kept::NoMemory;
