@@ -9,11 +9,12 @@ use Rattle.std.proofs.lemmas.List.Sums.{fold_push}
 use Rattle.sig_base.specs.Outcomes as outcomes
 use Rattle.sig_base.specs.Outcomes.{and_then, with_cause}
 use Rattle.dsig_fields.specs.Holds.{digest_holds}
+use Rattle.dsig_fields.specs.Verdicts.{differing}
 use Rattle.dsig_fields.specs.declared.fields.Reference.{Reference}
 use Rattle.transforms.specs.Answers.{names_of}
 use Rattle.transforms.specs.Answers as views
 use Rattle.transforms.specs.Asked.{names_behind, or_nothing}
-use Rattle.transforms.specs.Outcome.{Sources, differing, kept_if, last_step, next_view, references_report, report_by, total_limit, views_behind, within_total}
+use Rattle.transforms.specs.Outcome.{Sources, kept_if, last_step, next_view, references_report, report_by, total_limit, views_behind, within_total}
 use Rattle.transforms.specs.Steps.{octet_limit}
 use Rattle.transforms.specs.Values.{origin_of}
 use Rattle.transforms.specs.Views.{target_in, view_of}
@@ -26,7 +27,7 @@ use Rattle.transforms.specs.declared.refusal.RefRefusal.TheVariants.{OctetsTooLo
 use Rattle.core_validate.specs.Answers.{Gives, Refuses, Stops}
 use Rattle.core_validate.specs.Measures.{measure_of}
 use Rattle.core_validate.specs.Code.Measures.{Measures}
-use Rattle.core_validate.specs.Progress.{Advances, no_progress, noted, report_of, with_limited, with_octets, with_reference, with_view}
+use Rattle.core_validate.specs.Progress.{Advances, no_progress, noted, report_with, with_limited, with_octets, with_reference, with_view}
 use Rattle.core_validate.specs.Code.Progress.{reference_cause}
 use Rattle.core_validate.specs.declared.progress.Progress.{Progress}
 use Rattle.core_validate.specs.declared.view.Measured.{Measured}
@@ -168,14 +169,14 @@ advanced keep count number reference p q h a =
 abbrev pub behind : Sources → Progress → (number : ℕ) → List Reference → Result Report ValidateRefusal
 behind sources p number references =
     and_then (views_behind sources p.total number references)
-    (λ views. Ok (report_of (p.views.lengths ++ map length views) (p.views.octets ++ kept_if p.keep views) (p.differing ++ differing number references views)))
+    (λ views. Ok (report_with (p.views.lengths ++ map length views) (p.views.octets ++ kept_if p.keep views) (p.differing ++ differing number references views)))
 
-same_report : (keep : Bool) (views : List (List ℕ)) (differ : List ℕ) → report_of (map length views) (kept_if keep views) differ ≡ report_by keep views differ
+same_report : (keep : Bool) (views : List (List ℕ)) (differ : List ℕ) → report_with (map length views) (kept_if keep views) differ ≡ report_by keep views differ
 same_report keep views [] = refl
 same_report keep views (number ∷ more) = refl
 
 all_reported : (keep : Bool) (references : List Reference) (r : Result (List (List ℕ)) ValidateRefusal)
-    → and_then r (λ views. Ok (report_of (map length views) (kept_if keep views) (differing 1 references views)))
+    → and_then r (λ views. Ok (report_with (map length views) (kept_if keep views) (differing 1 references views)))
     ≡ and_then r (λ views. Ok (report_by keep views (differing 1 references views)))
 all_reported keep references (Ok views) = ap Ok (same_report keep views (differing 1 references views))
 all_reported keep references (Err cause) = refl
@@ -191,12 +192,12 @@ kept-none true = refl
 kept-none false = refl
 
 -- behind the last one
-pub behind_all : (sources : Sources) (p : Progress) (number : ℕ) → behind sources p number [] ≡ Ok (report_of p.views.lengths p.views.octets p.differing)
+pub behind_all : (sources : Sources) (p : Progress) (number : ℕ) → behind sources p number [] ≡ Ok (report_with p.views.lengths p.views.octets p.differing)
 unfolding views_behind differing
 behind_all sources p number =
-    ap (λ (xs : List ℕ). Ok (report_of xs (p.views.octets ++ kept_if p.keep []) (p.differing ++ []))) (append-nil p.views.lengths)
-    ∙ ap (λ (xs : List (List ℕ)). Ok (report_of p.views.lengths xs (p.differing ++ []))) (ap (λ (xs : List (List ℕ)). p.views.octets ++ xs) (kept-none p.keep) ∙ append-nil p.views.octets)
-    ∙ ap (λ (xs : List ℕ). Ok (report_of p.views.lengths p.views.octets xs)) (append-nil p.differing)
+    ap (λ (xs : List ℕ). Ok (report_with xs (p.views.octets ++ kept_if p.keep []) (p.differing ++ []))) (append-nil p.views.lengths)
+    ∙ ap (λ (xs : List (List ℕ)). Ok (report_with p.views.lengths xs (p.differing ++ []))) (ap (λ (xs : List (List ℕ)). p.views.octets ++ xs) (kept-none p.keep) ∙ append-nil p.views.octets)
+    ∙ ap (λ (xs : List ℕ). Ok (report_with p.views.lengths p.views.octets xs)) (append-nil p.differing)
 
 kept-cons : (keep : Bool) (before : List (List ℕ)) (view : List ℕ) (others : List (List ℕ))
     → before ++ kept_if keep (view ∷ others) ≡ (before ++ kept_if keep (view ∷ [])) ++ kept_if keep others
@@ -217,7 +218,7 @@ module _ (sources : Sources) (number : ℕ) (reference : Reference) (rest : List
   -- the report, by all views from this Reference on
   abbrev reported : List (List ℕ) → Result Report ValidateRefusal
   reported views =
-      Ok (report_of (p.views.lengths ++ map length views) (p.views.octets ++ kept_if p.keep views) (p.differing ++ differing number (reference ∷ rest) views))
+      Ok (report_with (p.views.lengths ++ map length views) (p.views.octets ++ kept_if p.keep views) (p.differing ++ differing number (reference ∷ rest) views))
 
   -- the views from this one on
   abbrev views_from : List ℕ → Result (List (List ℕ)) ValidateRefusal
@@ -225,14 +226,14 @@ module _ (sources : Sources) (number : ℕ) (reference : Reference) (rest : List
 
   reported-cons : (view : List ℕ) (others : List (List ℕ))
       → reported (view ∷ others)
-      ≡ (Ok (report_of ((p.views.lengths ++ length view ∷ []) ++ map length others) ((p.views.octets ++ kept_if p.keep (view ∷ [])) ++ kept_if p.keep others)
+      ≡ (Ok (report_with ((p.views.lengths ++ length view ∷ []) ++ map length others) ((p.views.octets ++ kept_if p.keep (view ∷ [])) ++ kept_if p.keep others)
       ((p.differing ++ differing number (reference ∷ []) (view ∷ [])) ++ differing (number + 1) rest others)))
   reported-cons view others =
       rw (sym (append_assoc p.views.lengths (length view ∷ []) (map length others)), kept-cons p.keep p.views.octets view others, differing-cons p.differing number reference rest view others)
 
   joined : (view : List ℕ) (r : Result (List (List ℕ)) ValidateRefusal)
       → and_then (and_then r (λ others. Ok (view ∷ others))) reported
-      ≡ and_then r (λ others. Ok (report_of ((p.views.lengths ++ length view ∷ []) ++ map length others) ((p.views.octets ++ kept_if p.keep (view ∷ [])) ++ kept_if p.keep others)
+      ≡ and_then r (λ others. Ok (report_with ((p.views.lengths ++ length view ∷ []) ++ map length others) ((p.views.octets ++ kept_if p.keep (view ∷ [])) ++ kept_if p.keep others)
       ((p.differing ++ differing number (reference ∷ []) (view ∷ [])) ++ differing (number + 1) rest others)))
   joined view (Ok others) = reported-cons view others
   joined view (Err cause) = refl

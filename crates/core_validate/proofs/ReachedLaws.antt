@@ -25,7 +25,7 @@ use Rattle.transforms.specs.declared.refusal.RefRefusal.{RefRefusal}
 use Rattle.core_validate.specs.Answers.{HasFewViews, HasOwnCause, IsNoFile, Stops, TellsAll}
 use Rattle.core_validate.specs.Code.Answers.{TellsEach}
 use Rattle.core_validate.specs.Code.Measures.{Measure, Measures}
-use Rattle.core_validate.specs.Progress.{report_of}
+use Rattle.core_validate.specs.Progress.{report_with}
 use Rattle.core_validate.specs.Code.Progress.{HasOwnStage}
 use Rattle.core_validate.specs.Reached.{AreViews, HasView, IsAuthentic, IsHad, Reached, ReachesReferences, Reports}
 use Rattle.core_validate.specs.Code.Signature.{IsFailure, signature_check}
@@ -83,10 +83,10 @@ is_had rows signature place reference keep measured told m =
 -- ---- the report behind the last Reference
 module _ (rows : List RowOf) (signature : ℕ) (place : Place) (keep : Bool) (references : List Reference) where
   pub reported : (count : ℕ) (p : Progress) → IsWithin keep count p → count ≡ length references → All (IsHad rows signature place) references
-      → Reports rows signature place keep references (report_of p.views.lengths p.views.octets p.differing)
+      → Reports rows signature place keep references (report_with p.views.lengths p.views.octets p.differing)
   reported count p h e had = go p.differing
     where
-      go : (differ : List ℕ) → Reports rows signature place keep references (report_of p.views.lengths p.views.octets differ)
+      go : (differ : List ℕ) → Reports rows signature place keep references (report_with p.views.lengths p.views.octets differ)
       go [] = record { had = had; many = h.many ∙ e; each = h.each; together = rw (sym h.sums) h.within; octets = h.octets }
       go (number ∷ more) = tt
 
@@ -95,14 +95,14 @@ kept_few : (keep : Bool) (lengths : List ℕ) (octets : List (List ℕ)) → map
 kept_few true lengths octets e = let same : length octets ≡ length lengths = sym (length-map octets length) ∙ ap (λ (t : List ℕ). length t) e in omega (arith, same)
 kept_few false lengths octets e = let same : length octets ≡ 0 = sym (length-map octets length) ∙ ap (λ (t : List ℕ). length t) e in omega (arith, same)
 
-pub few_views : (keep : Bool) (count : ℕ) (p : Progress) → IsWithin keep count p → count ≤ 256 → HasFewViews (report_of p.views.lengths p.views.octets p.differing)
+pub few_views : (keep : Bool) (count : ℕ) (p : Progress) → IsWithin keep count p → count ≤ 256 → HasFewViews (report_with p.views.lengths p.views.octets p.differing)
 few_views keep count p h few = go p.differing
   where
-    go : (differ : List ℕ) → HasFewViews (report_of p.views.lengths p.views.octets differ)
+    go : (differ : List ℕ) → HasFewViews (report_with p.views.lengths p.views.octets differ)
     go [] = omega (arith, kept_few keep p.views.lengths p.views.octets h.octets, h.many, few)
     go (number ∷ more) = tt
 
-pub staged : (lengths : List ℕ) (octets : List (List ℕ)) (differ : List ℕ) → HasOwnStage (Ok (report_of lengths octets differ))
+pub staged : (lengths : List ℕ) (octets : List (List ℕ)) (differ : List ℕ) → HasOwnStage (Ok (report_with lengths octets differ))
 staged lengths octets [] = tt
 staged lengths octets (number ∷ more) = tt
 

@@ -17,7 +17,8 @@ use Rattle.digests_hmac.specs.KeyEntries.{KeyEntry}
 use Rattle.dsig_fields.specs.Fields.{fields_of}
 use Rattle.dsig_fields.specs.Keys.{QuestionOf, key_of}
 use Rattle.dsig_fields.specs.Signatures.{nth_signature}
-use Rattle.transforms.specs.Outcome.{Sources, canonical_signed_info, differing, kept_if, last_step, next_view, outcome, references_report, report_by, total_limit, verdict, views_behind, views_of, within_total}
+use Rattle.dsig_fields.specs.Verdicts.{differing}
+use Rattle.transforms.specs.Outcome.{Sources, canonical_signed_info, kept_if, last_step, next_view, outcome, references_report, report_by, total_limit, verdict, views_behind, views_of, within_total}
 use Rattle.transforms.specs.Steps.{octet_limit}
 use Rattle.transforms.specs.declared.outcome.Report.{Report}
 use Rattle.transforms.specs.declared.outcome.Report.TheVariants as report

@@ -1,27 +1,25 @@
 -- The definitions, computed on a document that was worked by hand: <r><a>x</a><s/></r>, where <s/> stands for the Signature that contains
 -- the References.
-use Rattle.std.proofs.Common.{◌≡◌, refl, ℕ, ◌+◌, Bool, true, false, List, [], ◌∷◌, Some, None, Result, Ok, Err}
-use Rattle.std.specs.Prelude.{codes, if◌then◌else◌}
-use Rattle.sig_base.specs.declared.method.CanonMethod.TheVariants.{C10}
+use Rattle.std.proofs.Common.{◌≡◌, refl, ℕ, true, false, List, [], ◌∷◌, Some, None, Result, Ok, Err}
+use Rattle.std.specs.Prelude.{codes}
 use Rattle.sig_base.specs.declared.method.DigestMethod.TheVariants.{Sha256}
-use Rattle.sig_base.specs.declared.method.MacMethod.TheVariants.{HmacSha256}
 use Rattle.sig_outside.specs.Told.{no_files}
 use Rattle.xml_doc.specs.declared.row.Kind.{Kind}
 use Rattle.xml_doc.specs.declared.row.Kind.TheVariants.{Root, Element, Namespace, Text}
 use Rattle.xml_doc.specs.Rows.{RowOf}
-use Rattle.dsig_fields.specs.Holds.{digest_holds}
+use Rattle.dsig_fields.specs.Verdicts as verdicts
 use Rattle.dsig_fields.specs.declared.fields.Reference.{Reference}
 use Rattle.dsig_fields.specs.declared.fields.Step.TheVariants as step
 use Rattle.uri_refs.specs.Targets.{target_of}
 use Rattle.uri_refs.specs.declared.target.Place.{Place}
-use Rattle.transforms.specs.Outcome.{Sources, differing, next_view, report_by, views_behind, views_of}
+use Rattle.transforms.specs.Outcome.{Sources, next_view, report_by, views_behind, views_of}
 use Rattle.transforms.specs.Start.{start}
 use Rattle.transforms.specs.Steps.{nodes_step, step_value}
 use Rattle.transforms.specs.Views.{view_from, view_of}
 use Rattle.transforms.specs.declared.outcome.Report.TheVariants as report
 use Rattle.transforms.specs.declared.refusal.RefRefusal.TheVariants.{OctetsTooLong}
 use Rattle.core_validate.specs.Progress.{sources_of}
-use Rattle.core_validate.specs.Verdict.{report_for}
+use Rattle.core_validate.specs.Verdict.{report_of}
 
 abbrev row : Kind → ℕ → ℕ → (local value : List ℕ) → RowOf
 row kind parent last local value =
@@ -59,19 +57,14 @@ module _ (place : Place) where
   unfolding views_behind next_view view_of target_of start view_from step_value nodes_step
   views = (refl, refl, refl)
 
--- of three digests the second differs
-module _ (one two three : Reference) (a b c : List ℕ)
-    (first : digest_holds one.digest a one.expected ≡ true) (second : digest_holds two.digest b two.expected ≡ false) (third : digest_holds three.digest c three.expected ≡ true) where
-  numbers : differing 1 (one ∷ two ∷ three ∷ []) (a ∷ b ∷ c ∷ []) ≡ 2 ∷ []
-  unfolding differing
-  numbers = rw (first, second, third) refl
-
 -- views that aren't kept are told by their lengths
 reports : (report_by false (codes "ab" ∷ [] ∷ []) [] ≡ report.Valid (record { lengths = 2 ∷ 0 ∷ []; octets = [] }))
     × (report_by true (codes "ab" ∷ [] ∷ []) [] ≡ report.Valid (record { lengths = 2 ∷ 0 ∷ []; octets = codes "ab" ∷ [] ∷ [] }))
     × (report_by true (codes "ab" ∷ [] ∷ []) (2 ∷ []) ≡ report.DigestsDiffer (2 ∷ []))
 reports = (refl, refl, refl)
 
--- 40 bits of an HMAC-SHA256 are too few, whatever the value is
-short : report_for (record { canon = C10; prefixes = []; mac = HmacSha256; bits = Some 40; references = [] }) [] [] [] [] true ≡ report.ShortTruncation 40
-short = refl
+-- a verdict is told with its views, or without
+verdicts_told : (report_of false (verdicts.Valid (codes "ab" ∷ [] ∷ [])) ≡ report.Valid (record { lengths = 2 ∷ 0 ∷ []; octets = [] }))
+    × (report_of true (verdicts.Valid (codes "ab" ∷ [] ∷ [])) ≡ report.Valid (record { lengths = 2 ∷ 0 ∷ []; octets = codes "ab" ∷ [] ∷ [] }))
+    × (report_of true (verdicts.ShortTruncation 40) ≡ report.ShortTruncation 40)
+verdicts_told = (refl, refl, refl)

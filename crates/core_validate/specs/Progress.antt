@@ -4,8 +4,9 @@ use Rattle.sig_base.specs.Outcomes.{and_then, with_cause}
 use Rattle.sig_outside.specs.Told.{Held}
 use Rattle.xml_doc.specs.Rows.{RowOf}
 use Rattle.uri_refs.specs.declared.target.Place.{Place}
+use Rattle.dsig_fields.specs.Verdicts.{differing}
 use Rattle.dsig_fields.specs.declared.fields.Reference.{Reference}
-use Rattle.transforms.specs.Outcome.{Sources, differing, kept_if, last_step, next_view, total_limit, within_total}
+use Rattle.transforms.specs.Outcome.{Sources, kept_if, last_step, next_view, total_limit, within_total}
 use Rattle.transforms.specs.Steps.{octet_limit}
 use Rattle.transforms.specs.declared.outcome.Report.{Report}
 use Rattle.transforms.specs.declared.outcome.Report.TheVariants as report
@@ -69,9 +70,9 @@ pub record Advances (number : ℕ) (reference : Reference) (old new : Progress) 
   pub is : new ≡ with_view number reference view old
 
 -- the report of these lengths, views and numbers
-abbrev pub report_of : (lengths : List ℕ) → (octets : List (List ℕ)) → (differ : List ℕ) → Report
-report_of lengths octets [] = report.Valid (record { lengths = lengths; octets = octets })
-report_of lengths octets (number ∷ more) = report.DigestsDiffer (number ∷ more)
+abbrev pub report_with : (lengths : List ℕ) → (octets : List (List ℕ)) → (differ : List ℕ) → Report
+report_with lengths octets [] = report.Valid (record { lengths = lengths; octets = octets })
+report_with lengths octets (number ∷ more) = report.DigestsDiffer (number ∷ more)
 
 -- the same of one Reference
 abbrev pub IsOwnStop : {A : Type 0} → Result A ValidateRefusal → Type 0

@@ -1,7 +1,7 @@
 //! Laws of the definitions. Their functions do nothing; what they ensure holds of every argument.
 
 ghost use Rattle.core_validate.specs.Laws.{HandsOnCompared, OutcomeExactly, ValidExactly};
-ghost use Rattle.core_validate.specs.Verdict.{AgreeingReportsAreOne, ReportsAreVerdicts, VerdictsAreOne};
+ghost use Rattle.core_validate.specs.Verdict.{AgreeingReportsAreOne, ReportsAreVerdicts};
 
 /// Where the canonical SignedInfo is within its limit and no view is refused, a validation is valid exactly where the
 /// signature and each digest hold (XML Signature 1.1 §3.2), and it hands on the views whose digests were compared.
@@ -24,11 +24,6 @@ pub fn hands_on_compared()
 /// views of the References: the document counts by nothing else (XML Signature 1.1 §3.2).
 pub fn reports_are_verdicts()
     ensures { ReportsAreVerdicts }
-{}
-
-/// The verdict is one: the same octets, SignatureValue, key and views have the same report, whatever documents they come from.
-pub fn verdicts_are_one()
-    ensures { VerdictsAreOne }
 {}
 
 /// Two documents whose signatures were made over the same octets, with one SignatureValue, key and list of views, have the same

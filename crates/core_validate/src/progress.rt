@@ -140,7 +140,7 @@ impl Progress {
 
     /// The report behind the last Reference.
     fn report(self) -> Report
-        ensures { result ≡ spec.report_of self.views.lengths self.views.octets self.differing }
+        ensures { result ≡ spec.report_with self.views.lengths self.views.octets self.differing }
     {
         if self.differing.len() == 0 {
             Report::Valid(self.views)

@@ -1,30 +1,26 @@
 //! Signature validation (XML Signature 1.1 §3.2.2): whether the signature value is the HMAC over the canonical SignedInfo.
 
-ghost use Rattle.std.specs.Prelude.{◌≡◌, ◌-◌, ◌*◌, ◌^◌, ℕ, List, [], false, length, map, min, IfOk, IfSome, IsTrue, encode_utf8_all};
+ghost use Rattle.std.specs.Prelude.{◌≡◌, ◌-◌, ◌^◌, ℕ, List, [], false, length, map, min, IfOk, IfSome, encode_utf8_all};
 ghost use Rattle.sig_base.specs.Methods.{is_exclusive};
 ghost use Rattle.sig_base.specs.Outcomes.{Gives};
 ghost use Rattle.node_sets.specs.Members.{has};
 ghost use Rattle.c14n_methods.specs.Canons.{Canons};
 ghost use Rattle.c14n_methods.specs.Methods.{canonical_form};
-ghost use Rattle.digests_hmac.specs.Hash.{digest_size, hash_of, hmac_of};
+ghost use Rattle.digests_hmac.specs.Hash.{hmac_of};
 ghost use Rattle.digests_hmac.specs.Sinks.{mac_by};
 ghost use Rattle.dsig_fields.specs.Fits.{FieldsFit};
-ghost use Rattle.dsig_fields.specs.Holds as holds;
 ghost use Rattle.core_validate.specs.Answers.{Stops};
 ghost use Rattle.core_validate.specs.Authenticated.{HasTaken};
 ghost use Rattle.core_validate.specs.Code.Signature as code;
 
 use c14n_methods::{CanonFault, OCTET_LIMIT, canon};
-use digests_hmac::{Digest, MacSink, hmac_matches, output_bits};
-use dsig_fields::Fields;
+use digests_hmac::{Digest, MacSink, hmac_matches};
+use dsig_fields::{Fields, is_long_enough, value_bits};
 use node_sets::NodeSet;
 use sig_base::{CanonMethod, LenSink, MacMethod, NoMemory, OctetSink, PrefixList, Put};
 use std::alloc::Global;
 use transforms::{Report, ValidateRefusal};
 use xml_doc::Doc;
-
-/// The fewest bits that an HMACOutputLength may name (§4.4.2). Half of the shortest output is as many.
-const FEWEST_BITS: u32 = 80;
 
 /// The length of a canonical form in octets, and the HMAC over it.
 #[derive(Drop)]
@@ -104,23 +100,6 @@ fn authenticate(
         }),
         Err(_) => Err(NoMemory),
     }
-}
-
-/// The bits that the signature value has: those of the HMACOutputLength, else all.
-fn value_bits(mac: MacMethod, bits: Option<u32>) -> u32
-    ensures { result ≡ holds.value_bits mac bits }
-{
-    match bits {
-        Some(bits) => bits,
-        None => output_bits(mac),
-    }
-}
-
-/// Whether so many bits of an HMAC are enough: 80, and half of it (§4.4.2).
-fn is_long_enough(mac: MacMethod, bits: u32) -> bool
-    ensures { result ≡ holds.is_long_enough mac bits }
-{
-    FEWEST_BITS <= bits && output_bits(mac) / 2 <= bits
 }
 
 /// Whether the signature value is the HMAC over the canonical SignedInfo, cut to the bits that the fields name. A canonical

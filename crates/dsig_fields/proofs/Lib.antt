@@ -13,4 +13,6 @@ pub mod SameLaws
 pub mod SignatureLaws
 pub mod SimpleLaws
 pub mod Steps
+pub mod VerdictLaws
 pub mod Worked
+pub mod WorkedVerdicts

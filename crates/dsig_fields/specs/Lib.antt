@@ -13,4 +13,5 @@ pub mod Content
 pub mod Manifests
 pub mod Follows
 pub mod Same
+pub mod Verdicts
 pub mod Code

@@ -8,9 +8,8 @@ mod attributes;
 mod children;
 mod element;
 mod fields;
+mod holds;
 mod info;
-#[cfg(test)]
-mod info_tests;
 mod key;
 mod key_info;
 pub mod laws;
@@ -29,6 +28,7 @@ mod tests;
 mod transforms;
 
 pub use fields::{Fields, Filter, FilterList, Info, Reference, ReferenceList, Step, StepList};
+pub use holds::{is_long_enough, value_bits};
 pub use info::read_info;
 pub use key::{KeyChoice, Question, choose_key};
 pub use manifest::read_manifest;

@@ -16,12 +16,13 @@ use Rattle.dsig_fields.specs.Fields.{fields_of}
 use Rattle.dsig_fields.specs.Holds.{digest_holds, is_long_enough, is_mac_value, signature_holds, value_bits}
 use Rattle.dsig_fields.specs.Keys.{QuestionOf, key_of}
 use Rattle.dsig_fields.specs.Signatures.{nth_signature}
+use Rattle.dsig_fields.specs.Verdicts.{differing}
 use Rattle.dsig_fields.specs.declared.fields.Fields.{Fields}
 use Rattle.dsig_fields.specs.declared.fields.Reference.{Reference}
 use Rattle.dsig_fields.specs.declared.key.KeyChoice.{KeyChoice}
 use Rattle.dsig_fields.specs.declared.refusal.FieldRefusal.{FieldRefusal}
 use Rattle.transforms.specs.Outcome as validation
-use Rattle.transforms.specs.Outcome.{Sources, canonical_signed_info, differing, kept_if, last_step, next_view, references_report, report_by, total_limit, under_key, verdict, views_behind, views_of, within_total}
+use Rattle.transforms.specs.Outcome.{Sources, canonical_signed_info, kept_if, last_step, next_view, references_report, report_by, total_limit, under_key, verdict, views_behind, views_of, within_total}
 use Rattle.transforms.specs.Steps.{octet_limit}
 use Rattle.transforms.specs.Values.{origin_of}
 use Rattle.transforms.specs.Views.{view_of}

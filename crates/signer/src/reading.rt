@@ -7,7 +7,6 @@ ghost use Rattle.sig_base.specs.Outcomes.{Gives};
 ghost use Rattle.xml_doc.specs.Kinds.{is_text};
 ghost use Rattle.xml_doc.specs.Shape.{row_at};
 ghost use Rattle.dsig_fields.specs.Fits.{FieldsFit};
-ghost use Rattle.dsig_fields.specs.Holds as holds;
 ghost use Rattle.dsig_fields.specs.Keys.{question_of};
 ghost use Rattle.dsig_fields.specs.declared.fields.Reference.{Reference};
 ghost use Rattle.signer.specs.Code.Reading as code;
@@ -15,14 +14,11 @@ ghost use Rattle.signer.specs.Code.Refusals.{Stops};
 ghost use Rattle.signer.specs.Outcome as spec;
 
 use crate::refusal::SignRefusal;
-use digests_hmac::output_bits;
-use dsig_fields::{Fields, Question, choose_key, nth_signature, read_fields};
-use sig_base::MacMethod;
+use dsig_fields::{
+    Fields, Question, choose_key, is_long_enough, nth_signature, read_fields, value_bits,
+};
 use std::alloc::Global;
 use xml_doc::{Axis, Doc, Kind};
-
-/// The fewest bits that an HMACOutputLength may name (XML Signature 1.1 §4.4.2). Half of the shortest output is as many.
-const FEWEST_BITS: u32 = 80;
 
 /// What is read of a template.
 #[derive(Drop)]
@@ -33,23 +29,6 @@ pub(crate) struct Template<'q> {
     pub(crate) fields: Fields,
     /// The octets of the key.
     pub(crate) key: &'q [u8],
-}
-
-/// The bits that the signature value gets: those of the HMACOutputLength, else all.
-pub(crate) fn value_bits(mac: MacMethod, bits: Option<u32>) -> u32
-    ensures { result ≡ holds.value_bits mac bits }
-{
-    match bits {
-        Some(bits) => bits,
-        None => output_bits(mac),
-    }
-}
-
-/// Whether so many bits of an HMAC are enough: 80, and half of it (XML Signature 1.1 §4.4.2).
-fn is_long_enough(mac: MacMethod, bits: u32) -> bool
-    ensures { result ≡ holds.is_long_enough mac bits }
-{
-    FEWEST_BITS <= bits && output_bits(mac) / 2 <= bits
 }
 
 /// Whether a row is a text.

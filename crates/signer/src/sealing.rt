@@ -15,12 +15,11 @@ ghost use Rattle.dsig_fields.specs.Lengths.{may_keep};
 ghost use Rattle.signer.specs.Code.Refusals.{Stops};
 ghost use Rattle.signer.specs.Code.Sealing as code;
 
-use crate::reading::value_bits;
 use crate::refusal::{SignRefusal, filled_cause};
 use bumpalo::Bump;
 use c14n_methods::{CanonFault, canon, fits};
 use digests_hmac::{Digest, MacSink};
-use dsig_fields::Fields;
+use dsig_fields::{Fields, value_bits};
 use node_sets::NodeSet;
 use sig_base::{NoMemory, OctetSink, Octets};
 use std::alloc::Global;

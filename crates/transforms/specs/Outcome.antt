@@ -6,9 +6,10 @@ use Rattle.node_sets.specs.Members.{in_subtree}
 use Rattle.c14n_methods.specs.Methods.{canonical_form}
 use Rattle.uri_refs.specs.declared.target.Place.{Place}
 use Rattle.dsig_fields.specs.Fields.{fields_of}
-use Rattle.dsig_fields.specs.Holds.{digest_holds, is_long_enough, is_mac_value, value_bits}
+use Rattle.dsig_fields.specs.Holds.{is_long_enough, is_mac_value, value_bits}
 use Rattle.dsig_fields.specs.Keys.{QuestionOf, key_of}
 use Rattle.dsig_fields.specs.Signatures.{nth_signature}
+use Rattle.dsig_fields.specs.Verdicts.{differing}
 use Rattle.dsig_fields.specs.declared.fields.Fields.{Fields}
 use Rattle.dsig_fields.specs.declared.fields.Reference.{Reference}
 use Rattle.dsig_fields.specs.declared.key.KeyChoice.{KeyChoice}
@@ -65,14 +66,6 @@ views_behind sources total number (reference ∷ more) =
 
 abbrev pub views_of : Sources → List Reference → Result (List (List ℕ)) ValidateRefusal
 views_of sources references = views_behind sources 0 1 references
-
--- the numbers of the References whose digest differs, of which the first has this number, beside their views
-unfoldable pub differing : (number : ℕ) → List Reference → List (List ℕ) → List ℕ
-differing number [] views = []
-differing number (reference ∷ more) [] = []
-differing number (reference ∷ more) (view ∷ others) =
-    if digest_holds reference.digest view reference.expected then differing (number + 1) more others
-    else number ∷ differing (number + 1) more others
 
 abbrev pub kept_if : Bool → List (List ℕ) → List (List ℕ)
 kept_if keep views = if keep then views else []

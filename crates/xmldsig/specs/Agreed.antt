@@ -16,8 +16,8 @@ use Rattle.xmldsig.specs.Outcome.{OfReport, run_outcome}
 use Rattle.xmldsig.specs.Validation.{question_for}
 use Rattle.xmldsig.specs.declared.ending.Validated.{Validated}
 
--- the document that the folder holds is read, and hence spelled; its report is the verdict of the signature, the key, the catalog
--- and the views that the words ask about
+-- the document that the folder holds is read, and hence spelled; there is a verdict on the signature, the key, the catalog and the
+-- views that the words ask about, and the report tells it
 pub record RestsOnSigned (asked : Asked) (keep : Bool) (files : Held) (told : Report) : Type 0 where
   pub octets : List ℕ
   pub document : file.document_outcome asked.doc files ≡ Ok octets
