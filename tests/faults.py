@@ -4,7 +4,8 @@ writes, opens a file or makes a folder; and with each read and write moving one 
 
 A refused request of memory must end in status 7, with `fault memory` on err, nothing on out and no view left. A failed read or opening
 ends in `fault read`, one of a view in `fault view V 1`, a failed write to a stream in `fault write`, with the views that stand there
-whole. A read or write that moves one byte must change nothing. Needs a C compiler. Not part of the gate.
+whole. A read or write that moves one byte must change nothing; a refused request to make a piece of memory smaller may change nothing, or
+end as any other. Needs a C compiler. Not part of the gate.
 
 usage: tests/faults.py
 """
@@ -21,6 +22,7 @@ SHIM = r"""
 #include <dlfcn.h>
 #include <errno.h>
 #include <fcntl.h>
+#include <malloc.h>
 #include <stdarg.h>
 #include <stdio.h>
 #include <stdlib.h>
@@ -46,7 +48,11 @@ __attribute__((destructor)) static void end(void) {
 #define MEMORY if (hit("memory")) { errno = ENOMEM; return 0; }
 void *malloc(size_t n) { MEMORY return __libc_malloc(n); }
 void *calloc(size_t m, size_t n) { MEMORY return __libc_calloc(m, n); }
-void *realloc(void *p, size_t n) { MEMORY return __libc_realloc(p, n); }
+void *realloc(void *p, size_t n) {
+    if (p && n <= malloc_usable_size(p)) { if (hit("shrink")) { errno = ENOMEM; return 0; } }
+    else MEMORY
+    return __libc_realloc(p, n);
+}
 void *aligned_alloc(size_t a, size_t n) { MEMORY return __libc_memalign(a, n); }
 void *memalign(size_t a, size_t n) { MEMORY return __libc_memalign(a, n); }
 int posix_memalign(void **p, size_t a, size_t n) { if (hit("memory")) return ENOMEM; *p = __libc_memalign(a, n); return *p ? 0 : ENOMEM; }
@@ -76,7 +82,7 @@ int mkdir(const char *p, mode_t m) {
     return REAL(int, "mkdir", const char *, mode_t)(p, m);
 }
 """
-KINDS = ["memory", "read", "write", "open", "mkdir", "short"]
+KINDS = ["memory", "shrink", "read", "write", "open", "mkdir", "short"]
 COMMANDS = [
     ("order", ["validate", "order.xml", "--keys", "keys.txt", "--views"]),
     ("detached", ["validate", "signature.xml", "--keys", "keys.txt", "--views"]),
@@ -119,9 +125,9 @@ def is_right(kind, whole, end):
         5: some and whole[1].startswith(out) and (err == b"fault write\n" or whole[2].startswith(err)),
         6: out == b"" and some and err.startswith(b"fault view ") and err.endswith(b" 1\n"),
     }
-    permitted = {"memory": [7], "read": [4], "write": [5, 6], "open": [4, 6], "mkdir": [6], "short": []}[kind]
+    permitted = {"memory": [7], "read": [4], "write": [5, 6], "open": [4, 6], "mkdir": [6], "short": [], "shrink": [7]}[kind]
     # (a folder that is there already needn't be made)
-    return (status in permitted and by_fault[status]) or (kind in ("short", "mkdir") and end == whole)
+    return (status in permitted and by_fault[status]) or (kind in ("shrink", "short", "mkdir") and end == whole)
 
 
 def main():
