@@ -1,6 +1,7 @@
 pub mod Tools
 pub mod Flags
 pub mod Levels
+pub mod Forgotten
 pub mod Complete
 pub mod Sound
 pub mod Counted

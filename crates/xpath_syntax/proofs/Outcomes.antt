@@ -15,6 +15,7 @@ use Rattle.xpath_words.specs.declared.terminal.Offence.{Offence}
 use Rattle.xpath_words.specs.declared.terminal.Offence.TheVariants as offence
 use Rattle.xpath_syntax.specs.Offences.{terminals, refusal_of, permitted, offence_of, or_else, first_offence}
 use Rattle.xpath_syntax.specs.Reading.{expression_of}
+use Rattle.xpath_syntax.specs.Code.Forgetting.{shallow}
 use Rattle.xpath_syntax.specs.Outcome.{greatest, Means, too_long, no_tokens, not_spelled, too_deep, offending, spelled, Spelled, SpellsNone, offended, decided, tokens_outcome, parse_outcome, Refuses, Answers, IsMeant}
 use Rattle.xpath_syntax.proofs.Complete.{expression_complete, read_as}
 use Rattle.xpath_syntax.proofs.Sound.{expression_sound}
@@ -39,6 +40,21 @@ none_spelled ts e x h = let i = sym e ∙ expression_complete ts x h in absurd c
 flag_is : (ts : List Terminal) (x : Expr) (flag : Bool) (h : Spells (Level 0 x) ts) → expression_of ts ≡ Some (x, flag) → nat_lt limit (nesting (Level 0 x) ts h) ≡ flag
 flag_is ts x flag h e =
     ap (λ (r : Expr × Bool). r.1) (some_is (x, nat_lt limit (nesting (Level 0 x) ts h)) (x, flag) (sym (expression_complete ts x h) ∙ e))
+
+-- the outcome, by what reading gives of an expression that does not nest too deep
+pub decided_none : (first : Option SyntaxRefusal) (read : Option (Expr × Bool)) → shallow read ≡ None → decided first read ≡ Err refusal.NotXPath
+decided_none first None e = refl
+decided_none first (Some r) e = absurd cc
+
+pub decided_deep : (first : Option SyntaxRefusal) (read : Option (Expr × Bool)) → shallow read ≡ Some None → decided first read ≡ Err refusal.TooDeep
+decided_deep first None e = absurd cc
+decided_deep first (Some (x, true)) e = refl
+decided_deep first (Some (x, false)) e = absurd cc
+
+pub decided_shallow : (first : Option SyntaxRefusal) (read : Option (Expr × Bool)) (x : Expr) → shallow read ≡ Some (Some x) → decided first read ≡ offended first x
+decided_shallow first None x e = absurd cc
+decided_shallow first (Some (y, true)) x e = absurd cc
+decided_shallow first (Some (y, false)) x e = let same : y ≡ x = cc in ap (offended first) same
 
 offended_meant : (first : Option SyntaxRefusal) (text : List ℕ) (ps : List Pair) (ts : List Token) (x : Expr) → length text ≤ greatest → tokens_of (chars text) ps ≡ Some ts → (h : Spells (Level 0 x) (terminals ts))
     → nesting (Level 0 x) (terminals ts) h ≤ limit → first_offence ts ≡ first → Means text ps (offended first x)

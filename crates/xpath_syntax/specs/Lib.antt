@@ -6,3 +6,4 @@ pub mod Offences
 pub mod Lawful
 pub mod Seen
 pub mod Outcome
+pub mod Code

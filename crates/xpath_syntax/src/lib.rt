@@ -7,6 +7,7 @@
 mod begin;
 mod behind;
 mod expr;
+mod forgetting;
 mod frame;
 mod laws;
 mod leftmost;

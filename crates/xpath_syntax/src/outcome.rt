@@ -14,18 +14,17 @@ use xpath_words::{Prefixes, Token, TokensFault, tokens_of};
 const GREATEST: usize = 4096;
 
 /// What tokens come to: `NotXPath`, `TooDeep`, or the leftmost offence, whichever comes first; else the expression.
-#[tactic(auto, using(crate::proofs::Outcomes::refuses))]
+#[tactic(auto, using(crate::proofs::Outcomes::refuses, crate::proofs::Outcomes::decided_none, crate::proofs::Outcomes::decided_deep, crate::proofs::Outcomes::decided_shallow))]
 fn outcome_of_tokens(alloc: Global, tokens: Vec<Token>) -> Result<Expr, SyntaxRefusal>
     ensures { Answers result (tokens_outcome (Some tokens.items)) }
 {
     let first = first_offence(&tokens);
-    let (expr, is_deep) = read_all(alloc, tokens)?;
-    if is_deep {
-        return Err(SyntaxRefusal::TooDeep);
-    }
-    match first {
-        Some(refusal) => Err(refusal),
-        None => Ok(expr),
+    match read_all(alloc, tokens)? {
+        Some(expr) => match first {
+            Some(refusal) => Err(refusal),
+            None => Ok(expr),
+        },
+        None => Err(SyntaxRefusal::TooDeep),
     }
 }
 

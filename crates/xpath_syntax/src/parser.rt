@@ -1,12 +1,14 @@
 //! All terminals of an expression.
 ghost use Rattle.std.specs.Prelude.{◌≡◌, List, IfOk, reverse};
 ghost use Rattle.xpath_syntax.specs.Offences.{terminals};
-ghost use Rattle.xpath_syntax.specs.Reading.{step, finish, operand_of, expression_of};
+ghost use Rattle.xpath_syntax.specs.Reading.{step, finish, operand_of};
+ghost use Rattle.xpath_syntax.specs.Code.Forgetting.{shallow_expression_of};
 ghost use Rattle.xpath_syntax.specs.Seen.{Gives, Steps};
 
 use crate::begin::{begin, begin_step};
 use crate::behind::{after_axis, after_filter, after_path, after_root, after_step};
 use crate::expr::{Expr, PathStart};
+use crate::forgetting::kept;
 use crate::frame::{Frame, reduce};
 use crate::mode::Mode;
 use crate::nesting::{deepens, own_levels};
@@ -67,10 +69,10 @@ fn end(alloc: Global, stack: &mut Vec<Frame>, mode: Mode) -> Result<Expr, Syntax
     Ok(whole)
 }
 
-/// The expression that the terminals of tokens spell, and whether they nest too deep; `NotXPath` where they spell none.
+/// The expression that the terminals of tokens spell, or `None` where it nests too deep; `NotXPath` where they spell none.
 #[tactic(auto, unfolding(crate::specs::Reading::run))]
-pub fn read_all(alloc: Global, tokens: Vec<Token>) -> Result<(Expr, bool), SyntaxRefusal>
-    ensures { Gives result (expression_of (terminals tokens.items)) }
+pub fn read_all(alloc: Global, tokens: Vec<Token>) -> Result<Option<Expr>, SyntaxRefusal>
+    ensures { Gives result (shallow_expression_of (terminals tokens.items)) }
 {
     let mut stack = Vec::new(alloc);
     let mut mode = Mode::Wanted;
@@ -82,7 +84,11 @@ pub fn read_all(alloc: Global, tokens: Vec<Token>) -> Result<(Expr, bool), Synta
         let own = own_levels(&terminal);
         mode = advance(alloc, &mut stack, mode, terminal)?;
         is_deep = is_deep || deepens(&stack, own);
+        mode = kept(alloc, mode, is_deep);
     }
     let whole = end(alloc, &mut stack, mode)?;
-    Ok((whole, is_deep))
+    if is_deep {
+        return Ok(None);
+    }
+    Ok(Some(whole))
 }
