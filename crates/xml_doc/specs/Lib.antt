@@ -9,3 +9,4 @@ pub mod Ids
 pub mod Axes
 pub mod AxisLaws
 pub mod Searches
+pub mod Code

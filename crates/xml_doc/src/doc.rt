@@ -1,11 +1,14 @@
 //! The document, and what its rows say.
-ghost use Rattle.std.specs.Prelude.{◌≡◌, true, ◌+◌, ◌<◌, ◌^◌, length, map, IfOk, IfSome, slice_get, option_map, Some, None, MatchOption, ◌≤◌, ◌⊎◌};
+ghost use Rattle.std.specs.Prelude.{◌≡◌, true, ◌+◌, ◌<◌, ◌^◌, length, IfOk, IfSome, slice_get, option_map, Some, None, MatchOption, ◌≤◌, ◌⊎◌};
+ghost use Rattle.std.specs.List.{flat_map};
 ghost use Rattle.xml_doc.specs.Kinds.{is_field};
 ghost use Rattle.xml_doc.specs.Rows.{row_of};
 ghost use Rattle.xml_doc.specs.Shape.{IsWellShaped, row_at};
-ghost use Rattle.xml_doc.specs.Values.{subtree};
+ghost use Rattle.xml_doc.specs.Values.{subtree, text_of};
+ghost use Rattle.xml_doc.specs.Code.Kept.{AreOf, kept_text};
 ghost use Rattle.xml_doc.specs.Fields.{is_namespace_of, is_attribute_of, RunEnds, OwnRowsStand};
 
+use crate::kept::Common;
 use crate::row::{Kind, Row, RowList};
 use bumpalo::Bump;
 use sig_base::NoMemory;
@@ -14,19 +17,19 @@ use std::marker::Model;
 /// The rows of a document, whose texts stand in an arena. Every call takes a row by its number, from 0 to below [`rows`](Doc::rows).
 #[derive(Drop)]
 pub struct Doc<'a> {
-    rows: Vec<Row<'a>>,
+    rows: RowList<'a>,
 }
 
 impl<'a> Model for Doc<'a> {
-    ghost use Rattle.std.specs.Prelude.{List, map, ◌<◌, ◌^◌, length};
-    ghost use Rattle.xml_doc.specs.Rows.{RowOf, row_of};
+    ghost use Rattle.std.specs.Prelude.{List, ◌<◌, ◌^◌, length};
+    ghost use Rattle.xml_doc.specs.Rows.{RowOf};
     ghost use Rattle.xml_doc.specs.Shape.{IsWellShaped};
 
     ghost Value = { List RowOf };
 
-    ghost view = { λ d. map row_of d.rows.items };
+    ghost view = { λ d. d.rows };
 
-    ghost invariant = { λ d. (length d.rows.items < 2 ^ 32) × IsWellShaped (map row_of d.rows.items) };
+    ghost invariant = { λ d. (length d.rows < 2 ^ 32) × IsWellShaped d.rows };
 }
 
 impl<'a> Doc<'a> {
@@ -36,9 +39,7 @@ impl<'a> Doc<'a> {
         requires shaped { IsWellShaped rows }
         ensures { result ≡ rows.entry }
     {
-        Doc {
-            rows: rows.into_rows(),
-        }
+        Doc { rows }
     }
 
     /// The document of a copy of these rows, whose texts stand in the arena.
@@ -49,13 +50,6 @@ impl<'a> Doc<'a> {
     {
         let rows = rows.copied()?;
         Ok(Doc { rows })
-    }
-
-    /// All rows.
-    fn all(&self) -> &[Row<'a>]
-        ensures { map row_of result.now ≡ self.now }
-    {
-        &self.rows
     }
 
     /// How many rows there are: at least one, and fewer than 2^32. What is said of the rows' order and nesting holds of
@@ -71,7 +65,7 @@ impl<'a> Doc<'a> {
     pub fn row(&self, i: u32) -> Option<Row<'a>>
         ensures { option_map row_of result ≡ slice_get self.now i }
     {
-        self.all().get(i as usize).copied()
+        self.rows.get(i as usize)
     }
 
     /// The parent of a row (XPath 1.0 §5). `None` for the root, and from the number of rows on.
@@ -87,16 +81,15 @@ impl<'a> Doc<'a> {
         Some(self.row(i)?.parent)
     }
 
-    /// The row of that number.
-    pub(crate) fn at(&self, i: u32) -> &Row<'a>
+    /// The row of that number, without its rare fields.
+    pub(crate) fn at(&self, i: u32) -> &Common<'a>
         requires { i < length self.now }
-        ensures row { row_of result.now ≡ row_at self.now i }
+        ensures row { AreOf (row_at self.now i) result.now }
         ensures from { i ≤ result.now.last }
         ensures below { result.now.last < length self.now }
     {
         let _count = self.rows();
-        let rows = self.all();
-        &rows[i as usize]
+        self.rows.common(i as usize)
     }
 
     /// The number behind the last row of the row's subtree.
@@ -110,14 +103,13 @@ impl<'a> Doc<'a> {
         self.at(i).last + 1
     }
 
-    /// The rows from row `i` to the last of its subtree.
-    pub(crate) fn subtree(&self, i: u32) -> &[Row<'a>]
+    /// The rows from row `i` to the last of its subtree, for the texts among them.
+    pub(crate) fn subtree(&self, i: u32) -> &[Common<'a>]
         requires { i < length self.now }
-        ensures { map row_of result.now ≡ subtree self.now i }
+        ensures { flat_map kept_text result.now ≡ flat_map text_of (subtree self.now i) }
     {
-        let last = self.at(i).last;
-        let rows = self.all();
-        &rows[i as usize..last as usize + 1]
+        let behind = self.behind(i);
+        self.rows.range(i as usize, behind as usize)
     }
 
     /// The row's kind.
@@ -149,7 +141,7 @@ impl<'a> Doc<'a> {
         requires { i < length self.now }
         ensures { result.now ≡ (row_at self.now i).prefix_text }
     {
-        self.at(i).prefix_text
+        self.rows.rare(i as usize).prefix_text
     }
 
     /// The row's local name, as [`Row::local_name`] says.
@@ -165,7 +157,7 @@ impl<'a> Doc<'a> {
         requires { i < length self.now }
         ensures { result.now ≡ (row_at self.now i).uri }
     {
-        self.at(i).uri
+        self.rows.rare(i as usize).uri
     }
 
     /// The row's value, as [`Row::value`] says.

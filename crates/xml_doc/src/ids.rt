@@ -1,11 +1,12 @@
 //! The element that bears an ID.
-ghost use Rattle.std.specs.Prelude.{◌≡◌, ◌&&◌};
+ghost use Rattle.std.specs.Prelude.{◌≡◌, ◌<◌, ◌&&◌, length};
 ghost use Rattle.xml_doc.specs.Ids.{answer_of, bearers, gives_id, is_id_name};
 ghost use Rattle.xml_doc.specs.Kinds.{is_attribute};
-ghost use Rattle.xml_doc.specs.Rows.{row_of};
+ghost use Rattle.xml_doc.specs.Rows.{RowOf};
+ghost use Rattle.xml_doc.specs.Shape.{row_at};
 
 use crate::doc::Doc;
-use crate::row::{Kind, Row};
+use crate::row::Kind;
 use sig_base::XML_NAME;
 
 /// The elements that bear an ID.
@@ -20,24 +21,26 @@ pub enum IdAnswer {
 }
 
 /// Whether an attribute of that name is an ID.
-fn is_id_name(row: &Row<'_>) -> bool
-    ensures { result ≡ is_id_name (row_of row.now) }
+fn is_id_name(uri: &str, local_name: &str) -> bool
+    ensures { (r : RowOf) → r.uri ≡ uri.now → r.local_name ≡ local_name.now → result ≡ is_id_name r }
 {
-    if row.uri.is_empty() {
-        row.local_name == "Id" || row.local_name == "ID" || row.local_name == "id"
+    if uri.is_empty() {
+        local_name == "Id" || local_name == "ID" || local_name == "id"
     } else {
-        row.uri == XML_NAME && row.local_name == "id"
+        uri == XML_NAME && local_name == "id"
     }
 }
 
-/// Whether the row is an attribute that gives its element this ID.
-fn gives_id(row: &Row<'_>, id: &str) -> bool
-    ensures { result ≡ (is_attribute (row_of row.now).kind && gives_id id.now (row_of row.now)) }
-{
-    row.kind == Kind::Attribute && is_id_name(row) && row.value == id
-}
-
 impl<'a> Doc<'a> {
+    /// Whether row `k` is an attribute that gives its element this ID.
+    fn gives_id(&self, k: u32, id: &str) -> bool
+        requires { k < length self.now }
+        ensures { result ≡ (is_attribute (row_at self.now k).kind && gives_id id.now (row_at self.now k)) }
+    {
+        let row = self.at(k);
+        row.kind == Kind::Attribute && is_id_name(self.uri(k), row.local_name) && row.value == id
+    }
+
     /// The elements that bear this ID (XML Signature 1.1 §4.4.3.2). An element bears the value of its `xml:id`, and of
     /// its attributes `Id`, `ID` and `id` that have no namespace. The comparison is exact.
     ///
@@ -47,13 +50,13 @@ impl<'a> Doc<'a> {
     {
         let mut first = None;
         for k in 0..self.rows() {
-            let row = self.at(k);
-            if gives_id(row, id) {
+            if self.gives_id(k, id) {
+                let bearer = self.above(k);
                 match first {
-                    None => first = Some(row.parent),
+                    None => first = Some(bearer),
                     Some(e) => {
-                        if e != row.parent {
-                            return IdAnswer::Several(e, row.parent);
+                        if e != bearer {
+                            return IdAnswer::Several(e, bearer);
                         }
                     }
                 }

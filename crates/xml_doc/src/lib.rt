@@ -11,6 +11,7 @@
 mod axis;
 mod doc;
 mod ids;
+mod kept;
 mod laws;
 mod row;
 #[cfg(test)]

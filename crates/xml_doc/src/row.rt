@@ -1,7 +1,12 @@
 //! Rows, and lists of them.
-ghost use Rattle.std.specs.Prelude.{◌≡◌, ◌<◌, ◌∷◌, ◌++◌, [], length, map, IfOk, OnOk, OnErr, slice_get, slice_set, option_map};
+ghost use Rattle.std.specs.Prelude.{◌≡◌, ◌<◌, ◌∷◌, ◌++◌, [], length, IfOk, OnOk, OnErr, slice_get, slice_range, slice_set, option_map, ◌≤◌};
+ghost use Rattle.std.specs.List.{flat_map};
 ghost use Rattle.xml_doc.specs.Rows.{row_of};
+ghost use Rattle.xml_doc.specs.Shape.{row_at};
+ghost use Rattle.xml_doc.specs.Values.{text_of};
+ghost use Rattle.xml_doc.specs.Code.Kept.{AreOf, kept_text, rare_in, rare_of};
 
+use crate::kept::{Common, Rare, keep_rare, rare_at};
 use sig_base::NoMemory;
 use std::alloc::Global;
 use std::marker::Model;
@@ -57,16 +62,21 @@ pub struct Row<'a> {
 /// Rows, in document order.
 #[derive(Drop)]
 pub struct RowList<'a> {
-    rows: Vec<Row<'a>>,
+    rows: Vec<Common<'a>>,
+    rares: Vec<Rare<'a>>,
 }
 
 impl<'a> Model for RowList<'a> {
-    ghost use Rattle.std.specs.Prelude.{List, map};
-    ghost use Rattle.xml_doc.specs.Rows.{RowOf, row_of};
+    ghost use Rattle.std.specs.Prelude.{List, map, length};
+    ghost use Rattle.std.specs.List.{All};
+    ghost use Rattle.xml_doc.specs.Rows.{RowOf};
+    ghost use Rattle.xml_doc.specs.Code.Kept.{IsPlaced, rare_of, row_in};
 
     ghost Value = { List RowOf };
 
-    ghost view = { λ l. map row_of l.rows.items };
+    ghost view = { λ l. map (row_in (map rare_of l.rares.items)) l.rows.items };
+
+    ghost invariant = { λ l. All (IsPlaced (length l.rares.items)) l.rows.items };
 }
 
 impl<'a> RowList<'a> {
@@ -76,6 +86,7 @@ impl<'a> RowList<'a> {
     {
         RowList {
             rows: Vec::new(alloc),
+            rares: Vec::new(alloc),
         }
     }
 
@@ -84,7 +95,8 @@ impl<'a> RowList<'a> {
         ensures ok { OnOk result (self.new ≡ self.old ++ row_of member.entry ∷ []) }
         ensures err { OnErr result (self.new ≡ self.old) }
     {
-        self.rows.push(member)?;
+        let rare = keep_rare(&mut self.rares, Rare::of(&member))?;
+        self.rows.push(Common::of(&member, rare))?;
         Ok(())
     }
 
@@ -99,29 +111,56 @@ impl<'a> RowList<'a> {
     pub fn get(&self, k: usize) -> Option<Row<'a>>
         ensures { option_map row_of result ≡ slice_get self.now k }
     {
-        self.rows.get(k).copied()
+        if k < self.rows.len() {
+            Some(self.common(k).with(self.rare(k)))
+        } else {
+            None
+        }
     }
 
-    /// Replaces the row at that place, counted from 0.
-    pub fn set(&mut self, k: usize, member: Row<'a>)
+    /// Completes the row at that place, counted from 0: says its last row and where its content ends.
+    pub fn complete(&mut self, k: usize, last: u32, body_until: u32)
         requires { k < length self.old }
-        ensures { self.new ≡ slice_set self.old k (row_of member.entry) }
+        ensures { self.new ≡ slice_set self.old k (record (row_at self.old k) { last = last; body_until = body_until }) }
     {
-        self.rows[k] = member;
+        let row = &mut self.rows[k];
+        row.last = last;
+        row.body_until = body_until;
     }
 
-    /// The rows themselves.
-    pub(crate) fn into_rows(self) -> Vec<Row<'a>>
-        ensures { map row_of result.items ≡ self.entry }
+    /// The fields of the row at that place that most rows fill.
+    pub(crate) fn common(&self, k: usize) -> &Common<'a>
+        requires { k < length self.now }
+        ensures { AreOf (row_at self.now k) result.now }
     {
-        self.rows
+        &self.rows[k]
+    }
+
+    /// Its other fields.
+    pub(crate) fn rare(&self, k: usize) -> Rare<'a>
+        requires { k < length self.now }
+        ensures { rare_of result ≡ rare_in (row_at self.now k) }
+    {
+        rare_at(&self.rares, self.rows[k].rare)
+    }
+
+    /// The rows from one place to before another, without their rare fields.
+    pub(crate) fn range(&self, from: usize, until: usize) -> &[Common<'a>]
+        requires order { from ≤ until }
+        requires within { until ≤ length self.now }
+        ensures { flat_map kept_text result.now ≡ flat_map text_of (slice_range self.now from until) }
+    {
+        &self.rows[from..until]
     }
 
     /// The rows once more.
-    pub(crate) fn copied(&self) -> Result<Vec<Row<'a>>, NoMemory>
-        ensures { IfOk result (λ rows. map row_of rows.items ≡ self.now) }
+    pub(crate) fn copied(&self) -> Result<RowList<'a>, NoMemory>
+        ensures { IfOk result (λ rows. rows ≡ self.now) }
     {
-        Ok(self.rows.clone()?)
+        Ok(RowList {
+            rows: self.rows.clone()?,
+            rares: self.rares.clone()?,
+        })
     }
 }
 
@@ -150,9 +189,14 @@ mod tests {
         let mut rows = RowList::new(rt.alloc());
         rows.push(text("a"))?;
         rows.push(text("b"))?;
-        rows.set(0, text("c"));
+        rows.complete(0, 7, 9);
         assert_eq!(rt; rows.len(), 2);
-        assert_eq!(rt; rows.get(0), Some(text("c")));
+        let completed = Row {
+            last: 7,
+            body_until: 9,
+            ..text("a")
+        };
+        assert_eq!(rt; rows.get(0), Some(completed));
         assert_eq!(rt; rows.get(1), Some(text("b")));
         assert_eq!(rt; rows.get(2), None);
         Ok(())

@@ -1,12 +1,13 @@
 //! String values.
-ghost use Rattle.std.specs.Prelude.{◌≡◌, ◌<◌, length, map};
+ghost use Rattle.std.specs.Prelude.{◌≡◌, ◌<◌, length};
 ghost use Rattle.std.specs.List.{flat_map};
 ghost use Rattle.sig_base.specs.Puts.{Puts};
-ghost use Rattle.xml_doc.specs.Rows.{row_of};
-ghost use Rattle.xml_doc.specs.Values.{string_value, text_of};
+ghost use Rattle.xml_doc.specs.Values.{string_value};
+ghost use Rattle.xml_doc.specs.Code.Kept.{kept_text};
 
 use crate::doc::Doc;
-use crate::row::{Kind, Row};
+use crate::kept::Common;
+use crate::row::Kind;
 use sig_base::{OctetSink, Put};
 
 impl<'a> Doc<'a> {
@@ -25,8 +26,8 @@ impl<'a> Doc<'a> {
 }
 
 /// Writes the characters of a text, and nothing of another row.
-fn put_text<S: OctetSink>(row: &Row<'_>, sink: &mut S) -> Put
-    ensures { Puts S.stands_for S.refusals S.makes sink.old sink.new (text_of (row_of row.now)) result }
+fn put_text<S: OctetSink>(row: &Common<'_>, sink: &mut S) -> Put
+    ensures { Puts S.stands_for S.refusals S.makes sink.old sink.new (kept_text row.now) result }
 {
     match row.kind {
         Kind::Text => sink.put(row.value.as_bytes()),
@@ -35,8 +36,8 @@ fn put_text<S: OctetSink>(row: &Row<'_>, sink: &mut S) -> Put
 }
 
 /// Writes the texts among these rows, in their order.
-fn put_texts<S: OctetSink>(rows: &[Row<'_>], sink: &mut S) -> Put
-    ensures { Puts S.stands_for S.refusals S.makes sink.old sink.new (flat_map text_of (map row_of rows.now)) result }
+fn put_texts<S: OctetSink>(rows: &[Common<'_>], sink: &mut S) -> Put
+    ensures { Puts S.stands_for S.refusals S.makes sink.old sink.new (flat_map kept_text rows.now) result }
 {
     for row in rows {
         if let Put::Refused = put_text(row, sink) {

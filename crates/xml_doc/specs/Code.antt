@@ -1,0 +1,2 @@
+-- What only the code's own contracts and the proofs speak of: no public contract says it.
+pub mod Kept
