@@ -13,7 +13,7 @@ use bumpalo::Bump;
 use std::alloc::Global;
 use std::str::from_utf8;
 use xml_doc::Doc;
-use xml_resolve::{ResolveFault, RowFault, build_rows_from, check_names, depth_of};
+use xml_resolve::{ResolveFault, RowFault, build_rows, check_names, depth_of};
 use xml_syntax::{Event, SyntaxFault, read_events};
 
 /// The greatest length of a document, in bytes.
@@ -63,7 +63,7 @@ fn document_of<'a>(
     if depth_of(&events) > DEPTH_LIMIT {
         return Err(ReadRefusal::TooDeep);
     }
-    match build_rows_from(alloc, bump, events) {
+    match build_rows(alloc, bump, events) {
         Ok(rows) => Ok(Doc::from_rows(rows)),
         Err(fault) => Err(row_refusal(fault)),
     }

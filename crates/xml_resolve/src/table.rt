@@ -159,25 +159,6 @@ fn take_event<'a>(
     }
 }
 
-/// Adds the rows that stand below the root.
-#[tactic(auto, unfolding(crate::specs::Table::built))]
-fn fill<'a>(
-    alloc: Global,
-    bump: &'a Bump,
-    rows: &mut RowList<'a>,
-    events: &[Event<'a>],
-) -> Result<(), RowFault>
-    requires { length rows.old ≤ row_limit }
-    ensures { Fills result rows.new (built no_stack rows.old (seen_all events.now)) }
-{
-    let first = Bindings::first(alloc)?;
-    let mut elements = OpenElements::new(alloc);
-    for event in events {
-        take_event(alloc, bump, &first, &mut elements, rows, event)?;
-    }
-    Ok(())
-}
-
 /// After how many events the memory of those that were taken is given back.
 const SHARE: usize = 4096;
 
@@ -196,7 +177,7 @@ fn next_event<'a>(left: &mut Vec<Event<'a>>) -> Option<Event<'a>>
 
 /// Adds the rows that stand below the root. Each event is let go once it is taken.
 #[tactic(auto, unfolding(crate::specs::Table::built))]
-fn fill_from<'a>(
+fn fill<'a>(
     alloc: Global,
     bump: &'a Bump,
     rows: &mut RowList<'a>,
@@ -216,8 +197,8 @@ fn fill_from<'a>(
 }
 
 /// All rows that the events make.
-fn build<'a>(alloc: Global, bump: &'a Bump, events: &[Event<'a>]) -> Result<RowList<'a>, RowFault>
-    ensures { Makes result (all_rows (seen_all events.now)) }
+fn build<'a>(alloc: Global, bump: &'a Bump, events: Vec<Event<'a>>) -> Result<RowList<'a>, RowFault>
+    ensures { Makes result (all_rows (seen_all events.entry.items)) }
 {
     let mut rows = RowList::new(alloc);
     push_row(&mut rows, plain(Kind::Root, 0, 0, "", ""))?;
@@ -226,23 +207,10 @@ fn build<'a>(alloc: Global, bump: &'a Bump, events: &[Event<'a>]) -> Result<RowL
     Ok(rows)
 }
 
-/// The same, of events that are let go.
-fn build_from<'a>(
-    alloc: Global,
-    bump: &'a Bump,
-    events: Vec<Event<'a>>,
-) -> Result<RowList<'a>, RowFault>
-    ensures { Makes result (all_rows (seen_all events.entry.items)) }
-{
-    let mut rows = RowList::new(alloc);
-    push_row(&mut rows, plain(Kind::Root, 0, 0, "", ""))?;
-    fill_from(alloc, bump, &mut rows, events)?;
-    close_row(&mut rows, 0, 0);
-    Ok(rows)
-}
-
 /// The rows that events make, with their texts in the document or in the arena. Of the events of a tree whose names can be resolved, as
 /// [`check_names`](crate::check_names) tells, they are the rows of the tree: those of XPath 1.0 §5 in document order.
+///
+/// Events and rows are not held together: the memory of events that were taken is given back while rows are made.
 ///
 /// # Errors
 ///
@@ -251,27 +219,10 @@ fn build_from<'a>(
 pub fn build_rows<'a>(
     alloc: Global,
     bump: &'a Bump,
-    events: &[Event<'a>],
-) -> Result<RowList<'a>, RowFault>
-    ensures exact { Makes result (all_rows (seen_all events.now)) }
-    ensures tree { (t : Content) (r : Resolved) → seen_all events.now ≡ tree.events t → resolve [] t ≡ Some r → Builds result (rows_of r) }
-{
-    build(alloc, bump, events)
-}
-
-/// The same rows as [`build_rows`] makes. Events and rows are not held together: the memory of events that were taken is given back
-/// while rows are made.
-///
-/// # Errors
-///
-/// As those of [`build_rows`].
-pub fn build_rows_from<'a>(
-    alloc: Global,
-    bump: &'a Bump,
     events: Vec<Event<'a>>,
 ) -> Result<RowList<'a>, RowFault>
     ensures exact { Makes result (all_rows (seen_all events.entry.items)) }
     ensures tree { (t : Content) (r : Resolved) → seen_all events.entry.items ≡ tree.events t → resolve [] t ≡ Some r → Builds result (rows_of r) }
 {
-    build_from(alloc, bump, events)
+    build(alloc, bump, events)
 }

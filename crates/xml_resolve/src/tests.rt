@@ -74,11 +74,7 @@ fn expect_document<'a>(
 ) -> Result<(), Fail> {
     let events = events(alloc, text)?;
     assert_eq!(rt; depth_of(&events), 2);
-    match build_rows(alloc, bump, &events) {
-        Ok(rows) => expect_rows(rt, &rows)?,
-        Err(_) => panic!(rt),
-    }
-    match build_rows_from(alloc, bump, events) {
+    match build_rows(alloc, bump, events) {
         Ok(rows) => expect_rows(rt, &rows),
         Err(_) => panic!(rt),
     }

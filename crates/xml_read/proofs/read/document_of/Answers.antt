@@ -10,7 +10,7 @@ use Rattle.xml_read.proofs.read.document_of.Goals as goal
 pub from_rows-requires-clause-few : goal.from_rows-requires-clause-few
 from_rows-requires-clause-few c =
     let r = resolves c.requires.tree (c.in-Ok.ensures.tree c.requires.tree (ap seen_all c.deref.ensures.value ∙ c.requires.are)) in
-    let b = c.in-Ok-build_rows_from.ensures.tree c.requires.tree r.resolved c.requires.are r.is in
+    let b = c.in-Ok-build_rows.ensures.tree c.requires.tree r.resolved c.requires.are r.is in
     let e = ap length b.0 in
     let few = b.1 in
     omega (arith, e, few)
@@ -18,13 +18,13 @@ from_rows-requires-clause-few c =
 pub from_rows-requires-clause-shaped : goal.from_rows-requires-clause-shaped
 from_rows-requires-clause-shaped c =
     let r = resolves c.requires.tree (c.in-Ok.ensures.tree c.requires.tree (ap seen_all c.deref.ensures.value ∙ c.requires.are)) in
-    let b = c.in-Ok-build_rows_from.ensures.tree c.requires.tree r.resolved c.requires.are r.is in
+    let b = c.in-Ok-build_rows.ensures.tree c.requires.tree r.resolved c.requires.are r.is in
     rw b.0 (rows_shaped c.requires.tree r.resolved c.requires.whole r.is)
 
-pub returns-in-Ok-build_rows_from : goal.returns-in-Ok-build_rows_from
-returns-in-Ok-build_rows_from c = λ t told.
+pub returns-in-Ok-build_rows : goal.returns-in-Ok-build_rows
+returns-in-Ok-build_rows c = λ t told.
     let r = resolves t (c.in-Ok.ensures.tree t (ap seen_all c.deref.ensures.value ∙ told)) in
-    let b = c.in-Ok-build_rows_from.ensures.tree t r.resolved told r.is in
+    let b = c.in-Ok-build_rows.ensures.tree t r.resolved told r.is in
     let d = c.depth_of.ensures.tree t (ap seen_all c.deref-2.ensures.value ∙ told) in
     let shallow = c.if-depth_of-gt-DEPTH_LIMIT.false in
     all_rows t r.resolved r.is (omega (arith, d, shallow)) b.1 ∙ ap Ok (sym b.0 ∙ sym c.from_rows.ensures)
