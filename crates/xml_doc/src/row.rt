@@ -189,16 +189,26 @@ mod tests {
         let mut rows = RowList::new(rt.alloc());
         rows.push(text("a"))?;
         rows.push(text("b"))?;
-        rows.complete(0, 7, 9);
         assert_eq!(rt; rows.len(), 2);
+        assert_eq!(rt; rows.get(0), Some(text("a")));
+        assert_eq!(rt; rows.get(1), Some(text("b")));
+        assert_eq!(rt; rows.get(2), None);
+        Ok(())
+    }
+
+    #[test]
+    fn a_row_is_completed(rt: HostRuntime) -> Result<(), NoMemory> {
+        let mut rows = RowList::new(rt.alloc());
+        rows.push(text("a"))?;
+        if rows.len() == 1 {
+            rows.complete(0, 7, 9);
+        }
         let completed = Row {
             last: 7,
             body_until: 9,
             ..text("a")
         };
         assert_eq!(rt; rows.get(0), Some(completed));
-        assert_eq!(rt; rows.get(1), Some(text("b")));
-        assert_eq!(rt; rows.get(2), None);
         Ok(())
     }
 }
