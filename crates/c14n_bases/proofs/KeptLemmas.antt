@@ -1,14 +1,14 @@
 -- The segments that are kept, as they stand in a buffer.
 use Rattle.std.proofs.Common.{◌≡◌, ℕ, zero, suc, ◌+◌, ◌-◌, ◌<◌, ◌≤◌, ◌||◌, ◌&&◌, Bool, true, false, cond, List, [], ◌∷◌, ◌++◌, length, reverse, take, drop, get_or, replicate, refl, ap, sym, ◌∙◌, subst, arith, append_assoc, append-nil, length-append}
 use Rattle.std.specs.Prelude.{codes, nat_lt}
-use Rattle.std.specs.List.{All, flat_map, list_any}
-use Rattle.std.proofs.lemmas.Bool.{or_parts, cases_Bool, false≢true}
+use Rattle.std.specs.List.{All, list_any}
+use Rattle.std.proofs.lemmas.Bool.{false≢true}
 use Rattle.std.proofs.lemmas.Bool.Decides.{nat_tests}
 use Rattle.std.proofs.lemmas.Slice.Eq.{bytes_eq-Decides}
-use Rattle.std.proofs.lemmas.List.{reverse-append, take_at}
+use Rattle.std.proofs.lemmas.List.{reverse-append}
 use Rattle.std.proofs.lemmas.List.Elements.{All-nil, All-cons, All-tail, All-head}
-use Rattle.std.proofs.Math.Seq.{drop-append_seam, take-append_seam}
-use Rattle.c14n_bases.specs.Join.{is_slash, is_same, is_up, upwards, add, added, after_slash, between_slashes, path_of, directory, cleaned}
+use Rattle.std.proofs.Math.Seq.{take-append_seam}
+use Rattle.c14n_bases.specs.Join.{is_slash, is_same, is_up, upwards, add, between_slashes, path_of, directory}
 use Rattle.c14n_bases.specs.Code.Surplus.{led, is_any}
 use Rattle.c14n_bases.specs.Code.Kept.{Names, ups, IsSegment, KeptIn}
 use Rattle.c14n_bases.proofs.LedLemmas.{led-append, path_of-is, is_any-append}

@@ -6,7 +6,7 @@ use Rattle.std.specs.Prelude.{codes}
 use Rattle.std.specs.List.{flat_map}
 use Rattle.std.proofs.lemmas.Bool.{ne_eqb}
 use Rattle.std.proofs.lemmas.List.Concat.{flat_map-append}
-use Rattle.c14n_bases.specs.Join.{after_slash, between_slashes, path_of, added, cleaned}
+use Rattle.c14n_bases.specs.Join.{after_slash, path_of, added, cleaned}
 use Rattle.c14n_bases.specs.Code.Kept.{ups}
 use Rattle.c14n_bases.proofs.SurplusLemmas.{kept-is, surplus-append, names_kept-append}
 use Rattle.c14n_bases.specs.Code.Surplus.{led, is_any, surplus, is_name_kept, names_kept}

@@ -1,11 +1,11 @@
 -- How long a joined value can be.
-use Rattle.std.proofs.Common.{◌≡◌, ℕ, zero, suc, ◌+◌, ◌-◌, ◌≤◌, ◌==◌, ◌&&◌, Bool, true, false, not, cond, List, [], ◌∷◌, ◌++◌, length, reverse, take, drop, refl, ap, sym, ◌∙◌, arith, length-append, length-drop}
+use Rattle.std.proofs.Common.{◌≡◌, ℕ, suc, ◌+◌, ◌≤◌, ◌==◌, ◌&&◌, Bool, true, false, not, cond, List, [], ◌∷◌, ◌++◌, length, reverse, take, drop, refl, ap, sym, ◌∙◌, arith, length-append, length-drop}
 use Rattle.std.specs.Prelude.{codes, Option, Some, None, is_some}
 use Rattle.std.specs.List.{flat_map, onto_first, position_or_len}
 use Rattle.std.proofs.lemmas.List.{reverse-append, take-append-drop}
 use Rattle.std.proofs.lemmas.Bool.{and_parts}
 use Rattle.std.proofs.lemmas.Slice.Eq.{bytes_eq-Decides}
-use Rattle.c14n_bases.specs.Join.{Parts, is_one_of, before, from_first, begins, is_empty, has_scheme, scheme_of, behind_scheme, authority_of, behind_authority, query_of, cut, is_slash, segments, is_same, is_up, upwards, add, added, after_slash, path_of, directory, last_segment, is_dots, is_absolute, is_open, cleaned, clean, base_path, relative_path, joined_path, first_some, joined_query, below, scheme_octets, authority_octets, query_octets, put_together, cleaned_value, join}
+use Rattle.c14n_bases.specs.Join.{Parts, is_one_of, before, from_first, begins, is_empty, has_scheme, scheme_of, behind_scheme, authority_of, behind_authority, query_of, cut, is_slash, segments, is_same, is_up, upwards, add, added, after_slash, path_of, directory, last_segment, is_dots, is_absolute, is_open, clean, base_path, joined_path, first_some, joined_query, below, scheme_octets, authority_octets, query_octets, cleaned_value, join}
 use Rattle.c14n_bases.specs.Code.Slices.{parts_weight}
 use Rattle.c14n_bases.proofs.SegmentLemmas.{directory-last, some_segment}
 

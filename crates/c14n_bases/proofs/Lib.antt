@@ -4,3 +4,10 @@ pub mod LedLemmas
 pub mod JoinLemmas
 pub mod LengthLemmas
 pub mod KeptLemmas
+pub mod RunLemmas
+pub mod NameLemmas
+pub mod FrontLemmas
+pub mod CutLemmas
+pub mod CleanLemmas
+pub mod FormedLemmas
+pub mod JoinedLemmas

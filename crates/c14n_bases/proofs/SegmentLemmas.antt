@@ -1,12 +1,11 @@
 -- Segments of texts that are put together.
-use Rattle.std.proofs.Common.{◌≡◌, ℕ, zero, suc, ◌+◌, ◌-◌, ◌<◌, ◌≤◌, ◌||◌, Bool, true, false, not, cond, List, [], ◌∷◌, ◌++◌, length, take, drop, get_or, refl, ap, sym, ◌∙◌, arith, append_assoc, append-nil, inl, inr, ◌⊎◌, length-append}
-use Rattle.std.specs.Prelude.{codes, Option, Some, None}
-use Rattle.std.specs.List.{list_any, position_or_len, slice_split, onto_first}
+use Rattle.std.proofs.Common.{◌≡◌, ℕ, suc, ◌+◌, ◌-◌, ◌<◌, ◌≤◌, ◌||◌, Bool, true, false, not, cond, List, [], ◌∷◌, ◌++◌, length, take, drop, refl, ap, sym, ◌∙◌, arith, inl, inr, ◌⊎◌, length-append}
+use Rattle.std.specs.List.{list_any, position_or_len, onto_first}
 use Rattle.std.proofs.lemmas.List.Splits.{slice_split_none, slice_split_first, length-slice_split}
 use Rattle.std.proofs.lemmas.Bool.Decides.{nat_tests}
 use Rattle.std.proofs.lemmas.List.Sums.{fails_before_first}
 use Rattle.std.proofs.lemmas.List.{length-drop, take_all, drop-drop, take_at}
-use Rattle.c14n_bases.specs.Join.{is_slash, segments, is_same, is_up, last_segment, directory}
+use Rattle.c14n_bases.specs.Join.{is_slash, segments, last_segment, directory}
 
 -- ---- the first segment
 pub segments_one : (path : List ℕ) → length path ≤ position_or_len is_slash path → segments path ≡ path ∷ []

@@ -1,6 +1,6 @@
 -- Joining two values of `xml:base`: a base, and a value that stands below it. The rule is this project's own, after
 -- RFC 3986, section 5.2: values are texts, relative ones too, and fragments are dropped
-use Rattle.std.specs.Prelude.{ℕ, Bool, true, false, not, ◌&&◌, ◌||◌, ◌==◌, nat_lt, Option, Some, None, List, [], ◌∷◌, ◌++◌, codes, if◌then◌else◌, drop, reverse, is_some}
+use Rattle.std.specs.Prelude.{ℕ, Bool, true, false, not, ◌&&◌, ◌||◌, ◌==◌, Option, Some, None, List, [], ◌∷◌, ◌++◌, codes, if◌then◌else◌, drop, reverse, is_some}
 use Rattle.std.specs.List.{list_any, flat_map, position_or_len, before_first, slice_split, starts_with}
 use Rattle.std.specs.Str.{bytes_eq}
 

@@ -34,7 +34,7 @@ pub(crate) fn is_empty(text: &[u8]) -> bool
 }
 
 /// Whether a scheme stands at the front, and the colon behind it.
-fn has_scheme(text: &[u8]) -> bool
+pub(crate) fn has_scheme(text: &[u8]) -> bool
     ensures { result ≡ has_scheme text.now }
 {
     let at = first_of(b":/?#", text);

@@ -18,7 +18,7 @@ fn push_all(into: &mut Vec<u8>, octets: &[u8])
 }
 
 /// Puts the scheme of a value in the buffer.
-fn push_scheme(into: &mut Vec<u8>, scheme: Option<&[u8]>)
+pub(crate) fn push_scheme(into: &mut Vec<u8>, scheme: Option<&[u8]>)
     requires { length into.old.items + length (scheme_octets (octets_of scheme)) ≤ vec_capacity into.old }
     ensures items { into.new.items ≡ into.old.items ++ scheme_octets (octets_of scheme.entry) }
     ensures capacity { vec_capacity into.old ≤ vec_capacity into.new }
@@ -30,7 +30,7 @@ fn push_scheme(into: &mut Vec<u8>, scheme: Option<&[u8]>)
 }
 
 /// Puts the authority of a value in the buffer.
-fn push_authority(into: &mut Vec<u8>, authority: Option<&[u8]>)
+pub(crate) fn push_authority(into: &mut Vec<u8>, authority: Option<&[u8]>)
     requires { length into.old.items + length (authority_octets (octets_of authority)) ≤ vec_capacity into.old }
     ensures items { into.new.items ≡ into.old.items ++ authority_octets (octets_of authority.entry) }
     ensures capacity { vec_capacity into.old ≤ vec_capacity into.new }
@@ -42,7 +42,7 @@ fn push_authority(into: &mut Vec<u8>, authority: Option<&[u8]>)
 }
 
 /// Puts the query of a value in the buffer.
-fn push_query(into: &mut Vec<u8>, query: Option<&[u8]>)
+pub(crate) fn push_query(into: &mut Vec<u8>, query: Option<&[u8]>)
     requires { length into.old.items + length (query_octets (octets_of query)) ≤ vec_capacity into.old }
     ensures items { into.new.items ≡ into.old.items ++ query_octets (octets_of query.entry) }
     ensures capacity { vec_capacity into.old ≤ vec_capacity into.new }
@@ -54,7 +54,7 @@ fn push_query(into: &mut Vec<u8>, query: Option<&[u8]>)
 }
 
 /// Puts `/` in the buffer where asked for.
-fn push_slash_if(into: &mut Vec<u8>, wanted: bool)
+pub(crate) fn push_slash_if(into: &mut Vec<u8>, wanted: bool)
     requires { length into.old.items + 1 ≤ vec_capacity into.old }
     ensures items { into.new.items ≡ into.old.items ++ cond wanted (codes "/") [] }
     ensures capacity { vec_capacity into.old ≤ vec_capacity into.new }
@@ -91,7 +91,7 @@ fn push_segment(into: &mut Vec<u8>, floor: usize, segment: &[u8])
 }
 
 /// Takes the last segment behind `floor` from the buffer, and the `/` before it.
-fn cut_back(into: &mut Vec<u8>, floor: usize)
+pub(crate) fn cut_back(into: &mut Vec<u8>, floor: usize)
     requires { floor ≤ length into.old.items }
     ensures items { into.new.items ≡ take (floor + (length (directory (drop floor into.old.items)) - 1)) into.old.items }
     ensures capacity { vec_capacity into.new ≡ vec_capacity into.old }
@@ -128,7 +128,13 @@ fn add_segment(into: &mut Vec<u8>, floor: usize, absolute: bool, names: &mut u64
 }
 
 /// Adds the segments of a path.
-fn add_segments(into: &mut Vec<u8>, floor: usize, absolute: bool, names: &mut u64, path: &[u8])
+pub(crate) fn add_segments(
+    into: &mut Vec<u8>,
+    floor: usize,
+    absolute: bool,
+    names: &mut u64,
+    path: &[u8],
+)
     requires room { length into.old.items + length path.now + 1 ≤ vec_capacity into.old }
     requires within { floor ≤ length into.old.items }
     requires few { names.old + length path.now + 1 < 2 ^ 64 }

@@ -1,5 +1,5 @@
 //! Joining (RFC 3986 §5.2.2).
-ghost use Rattle.std.specs.Prelude.{◌≡◌, ◌≤◌, ◌+◌, ◌++◌, ◌&&◌, false, length, is_some, vec_capacity};
+ghost use Rattle.std.specs.Prelude.{◌≡◌, ℕ, ◌≤◌, ◌+◌, ◌++◌, ◌&&◌, List, false, length, is_some, vec_capacity};
 ghost use Rattle.sig_base.specs.Puts.{Puts};
 ghost use Rattle.c14n_bases.specs.Join.{put_together, clean, is_absolute, is_empty, relative_path, joined_path, joined_query, below, cleaned, cleaned_value, first_some, is_open, join, segments, scheme_octets, authority_octets, query_octets};
 ghost use Rattle.c14n_bases.specs.Code.Slices.{octets_of, parts_of, parts_weight, value_octets, value_weight};
@@ -11,7 +11,7 @@ use crate::value::{Value, put_value};
 use sig_base::{OctetSink, Put};
 
 /// The value whose path is one text.
-fn whole<'a>(
+pub(crate) fn whole<'a>(
     scheme: Option<&'a [u8]>,
     authority: Option<&'a [u8]>,
     path: &'a [u8],
@@ -63,6 +63,22 @@ fn below_directory<'a>(
     }
 }
 
+/// Whether the paths below a base are absolute, and the directory that they stand in.
+pub(crate) fn directory_of(base: Parts<'_>) -> (bool, &[u8])
+    ensures below { (path : List ℕ) → is_empty path ≡ false → is_absolute path ≡ false → clean (relative_path (parts_of base.entry) path)
+        ≡ cleaned result.0 (is_open path) (segments result.1.now ++ segments path) }
+    ensures shorter { length result.1.now ≤ length base.entry.path.now }
+{
+    if has_no_path(base) {
+        (true, b"")
+    } else if is_dotted(base.path) {
+        (is_absolute(base.path), base.path)
+    } else {
+        let first = directory(base.path);
+        (is_absolute(first), first)
+    }
+}
+
 /// The value of a relative path below a base.
 fn relative<'a>(base: Parts<'a>, path: &'a [u8], query: Option<&'a [u8]>) -> Value<'a>
     requires some { is_empty path.now ≡ false }
@@ -72,14 +88,8 @@ fn relative<'a>(base: Parts<'a>, path: &'a [u8], query: Option<&'a [u8]>) -> Val
     ensures weight { value_weight result ≤ parts_weight (parts_of base.entry) + length path.now + length
         (query_octets (octets_of query.entry)) }
 {
-    if has_no_path(base) {
-        below_directory(base, true, b"", path, query)
-    } else if is_dotted(base.path) {
-        below_directory(base, is_absolute(base.path), base.path, path, query)
-    } else {
-        let first = directory(base.path);
-        below_directory(base, is_absolute(first), first, path, query)
-    }
+    let (absolute, first) = directory_of(base);
+    below_directory(base, absolute, first, path, query)
 }
 
 /// The first of two queries that is there.
@@ -144,7 +154,7 @@ pub fn join_base<S: OctetSink>(base: &str, own: &str, sink: &mut S) -> Put
 }
 
 /// Puts the value that `own` gives below `base` in a buffer, which has room for both and four octets more. The work is linear.
-pub fn join_into(base: &[u8], own: &[u8], into: &mut Vec<u8>)
+pub(crate) fn join_into(base: &[u8], own: &[u8], into: &mut Vec<u8>)
     requires room { length base.now + length own.now + 4 ≤ vec_capacity into.old }
     ensures items { into.new.items ≡ join base.now own.now }
     ensures capacity { vec_capacity into.old ≤ vec_capacity into.new }

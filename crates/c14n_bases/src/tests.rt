@@ -1,5 +1,6 @@
 //! Each row is from hand and RFC 3986 §5.4, where its rule is the same.
-use super::{join_base, join_into};
+use super::join::join_into;
+use super::{Joined, join_base};
 use sig_base::{Put, VecSink};
 use std::alloc::Global;
 
@@ -51,5 +52,46 @@ fn joins_values(rt: HostRuntime) {
             joins_into(rt.alloc(), base, own, wanted),
             "{base} and {own}"
         );
+    }
+}
+
+/// The value that `own` gives below one base after another, the nearest first.
+fn joins_below(alloc: Global, own: &str, bases: &[&str], wanted: &str) -> bool {
+    let Ok(mut joined) = Joined::with_room(alloc, 100) else {
+        return false;
+    };
+    let Ok(mut spare) = Vec::with_capacity(alloc, 100) else {
+        return false;
+    };
+    if own.len() > 100 {
+        return false;
+    }
+    joined.set(own.as_bytes());
+    for base in bases {
+        let room = base.len().saturating_add(joined.value().len());
+        if room > 96 || spare.capacity() < 100 {
+            return false;
+        }
+        joined.join_below(base.as_bytes(), &mut spare);
+    }
+    joined.value() == wanted.as_bytes()
+}
+
+#[test]
+fn joins_below_bases(rt: HostRuntime) {
+    let rows = [
+        (
+            "../../../g",
+            ["a/b/", "c/d/", "http://h/e/f"],
+            "http://h/e/c/g",
+        ),
+        ("../../g", ["a/b", "/c", "//h"], "//h/g"),
+        ("../../..", ["a/b", "c", ""], "../../"),
+        ("./a:b", ["", "c/", "/d"], "a:b"),
+        ("?q", ["../a/?r", "b/./c?s", "s:d/e"], "s:d/a/?q"),
+        ("", ["#f", "?q", "a//.."], "?q"),
+    ];
+    for (own, bases, wanted) in rows.iter() {
+        assert!(rt; joins_below(rt.alloc(), own, bases, wanted), "{own}");
     }
 }

@@ -1,5 +1,5 @@
 -- Which segments of a path are kept, seen from the end: those that no `..` behind them takes away.
-use Rattle.std.specs.Prelude.{ℕ, ◌+◌, ◌-◌, ◌==◌, Bool, true, false, not, ◌&&◌, List, [], ◌∷◌, ◌++◌, suc, if◌then◌else◌, codes}
+use Rattle.std.specs.Prelude.{ℕ, ◌-◌, ◌==◌, Bool, true, false, not, ◌&&◌, List, [], ◌∷◌, ◌++◌, suc, if◌then◌else◌, codes}
 use Rattle.c14n_bases.specs.Join.{is_same, is_up, between_slashes}
 
 -- how many `..` of a path no segment before them in it meets, where so many come behind the path

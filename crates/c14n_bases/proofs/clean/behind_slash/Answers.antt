@@ -1,5 +1,4 @@
-use Rattle.std.proofs.Common.{◌≡◌, ◌≤◌, ◌<◌, ◌+◌, length, arith, length-drop, take, drop}
-use Rattle.c14n_bases.specs.Join.{last_segment}
+use Rattle.std.proofs.Common.{◌<◌, ◌+◌, length, arith, length-drop}
 use Rattle.c14n_bases.proofs.SegmentLemmas.{last_one, last_first, rest_whole}
 use Rattle.c14n_bases.proofs.clean.behind_slash.Goals as goal
 

@@ -1,7 +1,5 @@
-use Rattle.std.proofs.Common.{◌≡◌, ◌≤◌, ◌<◌, ◌+◌, ◌∷◌, length, arith, take, ap, sym, ◌∙◌}
-use Rattle.std.specs.List.{position_or_len}
-use Rattle.c14n_bases.specs.Join.{is_slash, segments, last_segment}
-use Rattle.c14n_bases.proofs.SegmentLemmas.{segments_one, segments_first, first_plain, whole_plain, last_one, last_first, rest_whole}
+use Rattle.std.proofs.Common.{◌<◌, ◌+◌, length, arith}
+use Rattle.c14n_bases.proofs.SegmentLemmas.{segments_one, segments_first, first_plain, whole_plain, rest_whole}
 use Rattle.c14n_bases.proofs.clean.cut_segment.Goals as goal
 
 pub returns-then-at-path-clause-segments : goal.returns-then-at-path-clause-segments

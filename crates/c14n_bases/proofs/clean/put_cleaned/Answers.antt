@@ -1,4 +1,4 @@
-use Rattle.std.proofs.Common.{◌||◌, refl, ap, sym, ◌∙◌}
+use Rattle.std.proofs.Common.{refl}
 use Rattle.sig_base.proofs.PutsLemmas.{Appended-then, IsFront-append, IsFront-all, stopped, handed_on}
 use Rattle.c14n_bases.specs.Join.{segments, is_open}
 use Rattle.c14n_bases.proofs.LedLemmas.{cleaned-is, cleaned-as}

@@ -1,6 +1,5 @@
 use Rattle.std.proofs.Common.{◌≡◌, ◌++◌, ◌||◌, ◌∷◌, [], Bool, List, ℕ, cond, ap, sym, ◌∙◌, append_assoc}
-use Rattle.sig_base.proofs.PutsLemmas.{IsFront, Appended-then, stopped}
-use Rattle.c14n_bases.specs.Join.{segments}
+use Rattle.sig_base.proofs.PutsLemmas.{Appended-then, stopped}
 use Rattle.c14n_bases.specs.Code.Slices.{octets_of, segments_left}
 use Rattle.c14n_bases.specs.Code.Surplus.{names_kept, is_name_kept, is_any, led}
 use Rattle.c14n_bases.proofs.LedLemmas.{names-more, any-more}

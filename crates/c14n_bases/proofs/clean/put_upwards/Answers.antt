@@ -1,6 +1,6 @@
-use Rattle.std.proofs.Common.{◌≡◌, ℕ, ◌<◌, ◌+◌, ◌-◌, ◌==◌, ◌++◌, [], ◌∷◌, false, not, List, replicate, ap, sym, ◌∙◌, arith, append_assoc}
+use Rattle.std.proofs.Common.{false, replicate}
 use Rattle.std.specs.Prelude.{codes}
-use Rattle.sig_base.proofs.PutsLemmas.{IsFront, stopped}
+use Rattle.sig_base.proofs.PutsLemmas.{stopped}
 use Rattle.c14n_bases.specs.Code.Surplus.{led}
 use Rattle.c14n_bases.proofs.LedLemmas.{led-front}
 use Rattle.c14n_bases.proofs.clean.put_upwards.Goals as goal

@@ -1,7 +1,6 @@
-use Rattle.std.proofs.Common.{◌≡◌, ℕ, List, drop, true, cond, sym, ap, ◌∙◌}
-use Rattle.std.specs.List.{position_or_len}
+use Rattle.std.proofs.Common.{ℕ, drop, cond, sym, ap, ◌∙◌}
 use Rattle.std.specs.Prelude.{codes}
-use Rattle.c14n_bases.specs.Join.{is_one_of, has_scheme, from_first}
+use Rattle.c14n_bases.specs.Join.{from_first}
 use Rattle.c14n_bases.proofs.SegmentLemmas.{behind_first}
 use Rattle.c14n_bases.proofs.cut.cut_scheme.Goals as goal
 

@@ -1,5 +1,4 @@
-use Rattle.std.proofs.Common.{◌≡◌, ◌+◌, ◌≤◌, ℕ, List, false, length, arith, ap, sym, ◌∙◌}
-use Rattle.c14n_bases.specs.Join.{add}
+use Rattle.std.proofs.Common.{◌≡◌, ℕ, List, length, arith}
 use Rattle.c14n_bases.specs.Code.Kept.{KeptIn}
 use Rattle.c14n_bases.proofs.KeptLemmas.{name_kept, name_gone, up_kept_if}
 use Rattle.c14n_bases.proofs.fill.add_segment.Goals as goal

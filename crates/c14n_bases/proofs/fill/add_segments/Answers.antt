@@ -1,5 +1,5 @@
-use Rattle.std.proofs.Common.{◌≡◌, ◌≤◌, ◌+◌, ℕ, List, length, arith, ap, sym, ◌∙◌}
-use Rattle.c14n_bases.specs.Join.{add, added, segments}
+use Rattle.std.proofs.Common.{◌≡◌, ℕ, List, length, arith, ap, sym, ◌∙◌}
+use Rattle.c14n_bases.specs.Join.{add, added}
 use Rattle.c14n_bases.specs.Code.Slices.{octets_of, segments_left, most_left}
 use Rattle.c14n_bases.specs.Code.Kept.{KeptIn}
 use Rattle.c14n_bases.proofs.fill.add_segments.Goals as goal

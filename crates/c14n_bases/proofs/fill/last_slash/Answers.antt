@@ -1,6 +1,6 @@
-use Rattle.std.proofs.Common.{◌≡◌, ◌<◌, ◌+◌, ◌-◌, ℕ, false, length, drop, get_or, ap, sym, ◌∙◌, arith}
+use Rattle.std.proofs.Common.{◌≡◌, ◌+◌, ◌-◌, ℕ, length, drop, ap, sym, ◌∙◌, arith}
 use Rattle.std.specs.List.{list_any}
-use Rattle.c14n_bases.specs.Join.{directory, is_slash}
+use Rattle.c14n_bases.specs.Join.{is_slash}
 use Rattle.c14n_bases.proofs.KeptLemmas.{directory-none, last_here, none_more}
 use Rattle.c14n_bases.proofs.fill.last_slash.Goals as goal
 

@@ -1,7 +1,6 @@
 use Rattle.std.proofs.Common.{◌≡◌, ◌&&◌, ◌++◌, ℕ, List, [], Bool, cond, length, reverse, arith, ap, sym, ◌∙◌}
 use Rattle.std.specs.Prelude.{codes, nat_lt}
 use Rattle.c14n_bases.specs.Join.{segments, is_open, added, path_of}
-use Rattle.c14n_bases.specs.Code.Kept.{KeptIn}
 use Rattle.c14n_bases.proofs.SurplusLemmas.{added-append}
 use Rattle.c14n_bases.proofs.KeptLemmas.{kept-begin, path-end}
 use Rattle.c14n_bases.proofs.fill.push_path.Goals as goal

@@ -1,6 +1,5 @@
-use Rattle.std.proofs.Common.{◌≡◌, List, ℕ, Bool, true, cond, ap, sym, ◌∙◌}
-use Rattle.c14n_bases.specs.Join.{is_empty, base_path, clean, joined_path, joined_query, first_some}
-use Rattle.c14n_bases.specs.Code.Slices.{octets_of, parts_of}
+use Rattle.std.proofs.Common.{◌≡◌, true, sym, ◌∙◌}
+use Rattle.c14n_bases.specs.Join.{is_empty}
 use Rattle.c14n_bases.proofs.JoinLemmas.{clean-base_path}
 use Rattle.c14n_bases.proofs.join.below.Goals as goal
 

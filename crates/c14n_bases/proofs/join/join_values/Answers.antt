@@ -1,4 +1,4 @@
-use Rattle.std.proofs.Common.{◌≡◌, ◌≤◌, ◌+◌, length, arith, ap, sym, ◌∙◌}
+use Rattle.std.proofs.Common.{arith, ap, ◌∙◌}
 use Rattle.c14n_bases.specs.Join as join
 use Rattle.c14n_bases.specs.Join.{below, cut, cleaned_value}
 use Rattle.c14n_bases.specs.Code.Slices.{parts_of, parts_weight}
