@@ -97,17 +97,17 @@ module _ (rows : List RowOf) (w : IsWellShaped rows) (set : ℕ → Bool) (p : �
 
   -- and it stays what it is
   pub joined_after : (old new : Joining) (b : ℕ) → Some b ≡ slice_get (run_bases rows set p) 0
-      → IfSome old.nearest (λ c. Some (c, old.run.items) ≡ with_bases rows None (run_bases rows set (parent_of rows c)))
+      → IfSome old.nearest (λ c. Some (c, old.run.value) ≡ with_bases rows None (run_bases rows set (parent_of rows c)))
       → JoinedLast old new b (with_bases rows None (run_bases rows set p))
-      → IfSome new.nearest (λ c. Some (c, new.run.items) ≡ with_bases rows None (run_bases rows set (parent_of rows c)))
+      → IfSome new.nearest (λ c. Some (c, new.run.value) ≡ with_bases rows None (run_bases rows set (parent_of rows c)))
   joined_after old new b first is (inl now) =
       let run = first_is (run_bases rows set p) b first in
       let e : run_bases rows set p ≡ run_bases rows set (parent_of rows b) = run.1 ∙ sym (same_run rows w set p p b run.0 (omega arith) there run.1) in
-      let f : Some (b, new.run.items) ≡ with_bases rows None (run_bases rows set (parent_of rows b)) = now.1 ∙ ap (with_bases rows None) e in
-      subst (λ (o : Option ℕ). IfSome o (λ c. Some (c, new.run.items) ≡ with_bases rows None (run_bases rows set (parent_of rows c)))) (sym now.0) f
+      let f : Some (b, new.run.value) ≡ with_bases rows None (run_bases rows set (parent_of rows b)) = now.1 ∙ ap (with_bases rows None) e in
+      subst (λ (o : Option ℕ). IfSome o (λ c. Some (c, new.run.value) ≡ with_bases rows None (run_bases rows set (parent_of rows c)))) (sym now.0) f
   joined_after old new b first is (inr as_before) =
       subst (λ (v : List ℕ). IfSome new.nearest (λ c. Some (c, v) ≡ with_bases rows None (run_bases rows set (parent_of rows c)))) (sym as_before.1)
-      (subst (λ (o : Option ℕ). IfSome o (λ c. Some (c, old.run.items) ≡ with_bases rows None (run_bases rows set (parent_of rows c)))) (sym as_before.0) is)
+      (subst (λ (o : Option ℕ). IfSome o (λ c. Some (c, old.run.value) ≡ with_bases rows None (run_bases rows set (parent_of rows c)))) (sym as_before.0) is)
 
 -- a run that has a row has it on top
 pub top_of_run : (rows : List RowOf) (on_runs : List ℕ) (b : ℕ) → Some b ≡ slice_get (run_on rows on_runs) 0 → (0 < length on_runs) × (run_on rows on_runs ≡ b ∷ run_on rows (take (length on_runs - 1) on_runs))

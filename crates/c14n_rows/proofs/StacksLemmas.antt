@@ -1,5 +1,5 @@
 -- The stacks as a whole.
-use Rattle.std.proofs.Common.{◌≡◌, ℕ, ◌<◌, ◌≤◌, Bool, false, Option, Some, None, IfSome, List, [], length, refl, sym, ◌∙◌, subst, arith}
+use Rattle.std.proofs.Common.{◌≡◌, ℕ, ◌<◌, ◌≤◌, Bool, false, Option, Some, None, IfSome, List, [], length, sym, ◌∙◌, subst, arith}
 use Rattle.std.specs.Prelude.{Result, Ok, Err, IfOk}
 use Rattle.std.proofs.lemmas.List.Elements.{All-same, All-nil}
 use Rattle.xml_doc.specs.Kinds.{is_element}
@@ -12,8 +12,10 @@ use Rattle.c14n_text.specs.Bases.{with_bases}
 use Rattle.c14n_rows.specs.declared.imports.Ordered.{Ordered}
 use Rattle.c14n_rows.specs.declared.renderer.Memory.{Memory}
 use Rattle.c14n_rows.specs.declared.stacks.Stacks.{Stacks}
+use Rattle.c14n_rows.specs.declared.bases.Joining.{Joining}
 use Rattle.c14n_rows.specs.Joined.{BasesFit}
-use Rattle.c14n_rows.specs.Stacks.{count_of, octets_of, IsEmpty, OrderedIn, RoomAt, RoomIn}
+use Rattle.c14n_rows.specs.Code.Joined.{KeepsBases}
+use Rattle.c14n_rows.specs.Stacks.{count_of, octets_of, total, upwards, IsEmpty, OrderedIn, RoomAt, RoomIn}
 use Rattle.c14n_rows.specs.Code.Stacks.{run_bases, HasRoom, IsTaken, IsTakenFor, Keeps, KeepsOrdered, SlotFits, StacksAt}
 use Rattle.c14n_rows.proofs.StackLemmas.{slots_at-skip, slots_at-root, xml_at-skip, xml_at-root}
 use Rattle.c14n_rows.proofs.RunLemmas.{runs_at-skip, runs_at-root}
@@ -51,11 +53,36 @@ stacks-root rows set rule w stacks none = record {
   xml_fit = All-same (λ a. a < length rows) stacks.xml.items [] none.xml (All-nil (λ a. a < length rows));
   runs_are = none.runs ∙ sym (runs_at-root rows set rule w);
   runs_fit = All-same (λ b. b < length rows) stacks.runs.items [] none.runs (All-nil (λ b. b < length rows));
-  is_joined = subst (λ (o : Option ℕ). IfSome o (λ b. Some (b, stacks.joining.run.items) ≡ with_bases rows None (run_bases rows set (parent_of rows b)))) (sym none.nearest) tt;
+  is_joined = subst (λ (o : Option ℕ). IfSome o (λ b. Some (b, stacks.joining.run.value) ≡ with_bases rows None (run_bases rows set (parent_of rows b)))) (sym none.nearest) tt;
+}
+
+-- the memory for joining
+pub bases-all : (joining : Joining) → KeepsBases joining joining
+bases-all joining = record { run = omega arith; own = omega arith; spare = omega arith }
+
+bases-then : (old now new : Joining) → KeepsBases old now → KeepsBases now new → KeepsBases old new
+bases-then old now new a b = record {
+  run = let m = a.run in let n = b.run in omega arith;
+  own = let m = a.own in let n = b.own in omega arith;
+  spare = let m = a.spare in let n = b.spare in omega arith;
+}
+
+pub bases-kept : (octets : ℕ) (old new : Joining) → KeepsBases old new → BasesFit octets old → BasesFit octets new
+bases-kept octets old new k f = record {
+  run = let m = k.run in let n = f.run in omega arith;
+  own = let m = k.own in let n = f.own in omega arith;
+  spare = let m = k.spare in let n = f.spare in omega arith;
+}
+
+pub bases-fewer : (few many : ℕ) (joining : Joining) → few ≤ many → BasesFit many joining → BasesFit few joining
+bases-fewer few many joining le f = record {
+  run = let n = f.run in omega arith;
+  own = let n = f.own in omega arith;
+  spare = let n = f.spare in omega arith;
 }
 
 pub keeps-all : (stacks : Stacks) → Keeps stacks stacks
-keeps-all stacks = record { slots = omega arith; xml = omega arith; runs = omega arith; marks = omega arith; octets = refl; fit = λ (f : BasesFit stacks.joining). f }
+keeps-all stacks = record { slots = omega arith; xml = omega arith; runs = omega arith; marks = omega arith; joining = bases-all stacks.joining }
 
 pub keeps-then : (old now new : Stacks) → Keeps old now → Keeps now new → Keeps old new
 keeps-then old now new a b = record {
@@ -63,8 +90,7 @@ keeps-then old now new a b = record {
   xml = let m = a.xml in let n = b.xml in omega arith;
   runs = let m = a.runs in let n = b.runs in omega arith;
   marks = let m = a.marks in let n = b.marks in omega arith;
-  octets = a.octets ∙ b.octets;
-  fit = λ (f : BasesFit old.joining). b.fit (a.fit f);
+  joining = bases-then old.joining now.joining new.joining a.joining b.joining;
 }
 
 pub room-kept : (rows : List RowOf) (x : ℕ) (old new : Stacks) → Keeps old new → RoomAt rows x old → RoomAt rows x new
@@ -73,8 +99,7 @@ room-kept rows x old new k r = record {
   xml = let m = r.xml in let n = k.xml in omega arith;
   runs = let m = r.runs in let n = k.runs in omega arith;
   marks = let m = r.marks in let n = k.marks in omega arith;
-  octets = let m = r.octets in let n = k.octets in omega arith;
-  fit = k.fit r.fit;
+  joining = bases-kept (total (octets_of rows) (upwards rows x)) old.joining new.joining k.joining r.joining;
 }
 
 pub room_in-kept : (rows : List RowOf) (first until : ℕ) (old new : Stacks) → Keeps old new → RoomIn rows first until old → RoomIn rows first until new
@@ -90,8 +115,7 @@ room-above rows w y x stacks le within lt r =
       xml = let m = r.xml in omega arith;
       runs = let m = r.runs in omega arith;
       marks = let m = r.marks in omega arith;
-      octets = let m = r.octets in omega arith;
-      fit = r.fit;
+      joining = bases-fewer _ _ stacks.joining octets r.joining;
     }
 
 -- what was taken is enough
@@ -104,8 +128,7 @@ room-taken rows first until entries octets stacks e o t = record {
         xml = let k = t.xml in omega arith;
         runs = let k = t.runs in omega arith;
         marks = let k = t.marks in omega arith;
-        octets = let k = t.octets in omega arith;
-        fit = t.fit;
+        joining = bases-fewer _ octets stacks.joining n t.joining;
       };
 }
 

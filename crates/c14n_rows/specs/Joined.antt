@@ -9,8 +9,8 @@ abbrev pub weights : List RowOf → List ℕ → ℕ
 weights rows [] = 0
 weights rows (b ∷ bs) = length (row_at rows b).value + 4 + weights rows bs
 
--- the buffers have the room that was asked for
-pub record BasesFit (joining : Joining) : Type 0 where
-  pub run : joining.room ≤ vec_capacity joining.run
-  pub own : joining.room ≤ vec_capacity joining.own
-  pub spare : joining.room ≤ vec_capacity joining.spare
+-- there is room for joining that takes so many octets
+pub record BasesFit (octets : ℕ) (joining : Joining) : Type 0 where
+  pub run : octets ≤ joining.run.room
+  pub own : octets ≤ joining.own.room
+  pub spare : octets ≤ vec_capacity joining.spare

@@ -32,8 +32,7 @@ pub record RoomAt (rows : List RowOf) (x : ℕ) (stacks : Stacks) : Type 0 where
   pub xml : total (count_of rows) (upwards rows x) ≤ vec_capacity stacks.xml
   pub runs : total (count_of rows) (upwards rows x) ≤ vec_capacity stacks.runs
   pub marks : total (count_of rows) (upwards rows x) ≤ vec_capacity stacks.marks
-  pub octets : total (octets_of rows) (upwards rows x) ≤ stacks.joining.room
-  pub fit : BasesFit stacks.joining
+  pub joining : BasesFit (total (octets_of rows) (upwards rows x)) stacks.joining
 
 -- the same for each row of a range
 pub record RoomIn (rows : List RowOf) (first until : ℕ) (stacks : Stacks) : Type 0 where

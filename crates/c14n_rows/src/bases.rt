@@ -12,16 +12,15 @@ ghost use Rattle.c14n_text.specs.Attributes.{imports_attributes};
 ghost use Rattle.c14n_text.specs.Bases.{bases, is_base, is_eleven, joined_base, with_bases};
 ghost use Rattle.c14n_rows.specs.Rules.{rule_of};
 ghost use Rattle.c14n_rows.specs.Joined.{BasesFit, weights};
-ghost use Rattle.c14n_rows.specs.Code.Joined.{BaseThere, FoundThere, JoinedLast, base_of, filled, found_of, if_base, with_value};
+ghost use Rattle.c14n_rows.specs.Code.Joined.{BaseThere, FoundThere, JoinedLast, KeepsBases, base_of, filled, found_of, if_base, with_value};
 ghost use Rattle.c14n_rows.specs.Stacks.{RoomAt};
 ghost use Rattle.c14n_rows.specs.Code.Stacks.{Keeps, StacksAt, run_on};
 
 use crate::attributes::{imports_attributes, is_element, is_xml};
 use crate::namespaces::Method;
 use crate::stacks::Stacks;
-use c14n_bases::join_into;
+use c14n_bases::Joined;
 use node_sets::SetView;
-use std::mem;
 use xml_doc::Doc;
 
 /// A joined `xml:base` that is lent.
@@ -50,13 +49,11 @@ pub(crate) struct Joining {
     /// The nearest row of the run that was joined last.
     pub nearest: Option<u32>,
     /// The value of that run.
-    pub run: Vec<u8>,
+    pub run: Joined,
     /// The value of an element that has one, below a run.
-    pub own: Vec<u8>,
-    /// Where the next value is put together.
+    pub own: Joined,
+    /// Memory for joining.
     pub spare: Vec<u8>,
-    /// How many octets each of these has room for.
-    pub room: usize,
 }
 
 /// Lends what was found.
@@ -68,11 +65,11 @@ pub(crate) fn lend(found: Found, joining: &Joining) -> Option<Base<'_>>
         Found::Nothing => None,
         Found::Run(place) => Some(Base {
             place,
-            value: &joining.run,
+            value: joining.run.value(),
         }),
         Found::Own(place) => Some(Base {
             place,
-            value: &joining.own,
+            value: joining.own.value(),
         }),
     }
 }
@@ -92,37 +89,15 @@ pub(crate) fn is_base(doc: &Doc<'_>, a: u32) -> bool
     is_xml(doc, a) && doc.local_name(a) == "base"
 }
 
-/// Puts a value in a buffer, which has room for it.
-fn copy_value(value: &str, into: &mut Vec<u8>)
-    requires { length value.now ≤ vec_capacity into.old }
-    ensures items { into.new.items ≡ value.now }
-    ensures capacity { vec_capacity into.old ≤ vec_capacity into.new }
-{
-    into.clear();
-    into.extend_from_slice(value.as_bytes()).unwrap();
-}
-
-/// Joins a value below a base, in the other buffer, which has room for both.
-fn join_value(base: &str, value: &mut Vec<u8>, spare: &mut Vec<u8>)
-    requires { length base.now + length value.old.items + 4 ≤ vec_capacity spare.old }
-    ensures items { value.new.items ≡ join base.now value.old.items }
-    ensures value_capacity { vec_capacity spare.old ≤ vec_capacity value.new }
-    ensures spare_capacity { vec_capacity value.old ≤ vec_capacity spare.new }
-{
-    join_into(base.as_bytes(), value, spare);
-    mem::swap(value, spare);
-}
-
 /// Joins a value below those of a run, which stand on top of the stack.
-fn join_run(doc: &Doc<'_>, runs: &[u32], value: &mut Vec<u8>, spare: &mut Vec<u8>, room: usize)
+fn join_run(doc: &Doc<'_>, runs: &[u32], joined: &mut Joined, spare: &mut Vec<u8>)
     requires runs_fit { All (λ b. b < length doc.now) runs.now }
-    requires value_room { room ≤ vec_capacity value.old }
-    requires spare_room { room ≤ vec_capacity spare.old }
-    requires enough { length value.old.items + weights doc.now (run_on doc.now runs.now) ≤ room }
-    ensures joined { (place : ℕ) → Some (place, value.new.items)
-        ≡ with_bases doc.now (Some (place, value.old.items)) (run_on doc.now runs.now) }
-    ensures value_room { room ≤ vec_capacity value.new }
-    ensures spare_room { room ≤ vec_capacity spare.new }
+    requires room { length joined.old.value + weights doc.now (run_on doc.now runs.now) ≤ joined.old.room }
+    requires spare { length joined.old.value + weights doc.now (run_on doc.now runs.now) ≤ vec_capacity spare.old }
+    ensures joined { (place : ℕ) → Some (place, joined.new.value)
+        ≡ with_bases doc.now (Some (place, joined.old.value)) (run_on doc.now runs.now) }
+    ensures room { joined.new.room ≡ joined.old.room }
+    ensures capacity { vec_capacity spare.old ≤ vec_capacity spare.new }
 {
     let mut i = runs.len();
     while i > 0 {
@@ -131,7 +106,7 @@ fn join_run(doc: &Doc<'_>, runs: &[u32], value: &mut Vec<u8>, spare: &mut Vec<u8
         if is_element(doc.kind(b)) {
             return;
         }
-        join_value(doc.value(b), value, spare);
+        joined.join_below(doc.value(b).as_bytes(), spare);
     }
 }
 
@@ -156,24 +131,21 @@ fn nearest_base(doc: &Doc<'_>, runs: &[u32]) -> Option<u32>
 fn join_nearest(doc: &Doc<'_>, runs: &[u32], joining: &mut Joining, b: u32)
     requires runs_fit { All (λ b. b < length doc.now) runs.now }
     requires nearest { Some b ≡ slice_get (run_on doc.now runs.now) 0 }
-    requires fit { BasesFit joining.old }
-    requires enough { weights doc.now (run_on doc.now runs.now) ≤ joining.old.room }
-    requires joined { joining.old.nearest ≡ Some b → Some (b, joining.old.run.items) ≡ with_bases doc.now None (run_on doc.now runs.now) }
-    ensures joined { Some (b, joining.new.run.items) ≡ with_bases doc.now None (run_on doc.now runs.now) }
+    requires fit { BasesFit (weights doc.now (run_on doc.now runs.now)) joining.old }
+    requires joined { joining.old.nearest ≡ Some b → Some (b, joining.old.run.value) ≡ with_bases doc.now None (run_on doc.now runs.now) }
+    ensures joined { Some (b, joining.new.run.value) ≡ with_bases doc.now None (run_on doc.now runs.now) }
     ensures nearest { joining.new.nearest ≡ Some b }
-    ensures fit { BasesFit joining.new }
-    ensures room { joining.new.room ≡ joining.old.room }
+    ensures kept { KeepsBases joining.old joining.new }
 {
     if joining.nearest == Some(b) {
         return;
     }
-    copy_value(doc.value(b), &mut joining.run);
+    joining.run.set(doc.value(b).as_bytes());
     join_run(
         doc,
         &runs[..runs.len() - 1],
         &mut joining.run,
         &mut joining.spare,
-        joining.room,
     );
     joining.nearest = Some(b);
 }
@@ -182,33 +154,32 @@ fn join_nearest(doc: &Doc<'_>, runs: &[u32], joining: &mut Joining, b: u32)
 /// the first of these, if one came.
 fn join_attribute(
     doc: &Doc<'_>,
-    own: &mut Vec<u8>,
+    own: &mut Joined,
     spare: &mut Vec<u8>,
-    room: usize,
     place: Option<u32>,
     a: u32,
 ) -> Option<u32>
     requires here { a < length doc.now }
     requires there { IfSome place (λ b. b < length doc.now) }
-    requires own_room { room ≤ vec_capacity own.old }
-    requires spare_room { room ≤ vec_capacity spare.old }
-    requires enough { filled place own.old.items + weights doc.now (if_base doc.now a) ≤ room }
-    ensures value { with_value result own.new.items ≡ with_bases doc.now (with_value place own.old.items) (if_base doc.now a) }
+    requires room { filled place own.old.value + weights doc.now (if_base doc.now a) ≤ own.old.room }
+    requires spare { filled place own.old.value + weights doc.now (if_base doc.now a) ≤ vec_capacity spare.old }
+    ensures value { with_value result own.new.value ≡ with_bases doc.now (with_value place own.old.value) (if_base doc.now a) }
     ensures there { IfSome result (λ b. b < length doc.now) }
-    ensures few { filled result own.new.items ≤ filled place own.old.items + weights doc.now (if_base doc.now a) }
-    ensures own_room { room ≤ vec_capacity own.new }
-    ensures spare_room { room ≤ vec_capacity spare.new }
+    ensures few { filled result own.new.value ≤ filled place own.old.value + weights doc.now (if_base doc.now a) }
+    ensures room { own.new.room ≡ own.old.room }
+    ensures capacity { vec_capacity spare.old ≤ vec_capacity spare.new }
 {
     if !is_base(doc, a) {
         return place;
     }
+    let value = doc.value(a).as_bytes();
     match place {
         None => {
-            copy_value(doc.value(a), own);
+            own.set(value);
             Some(a)
         }
         Some(first) => {
-            join_value(doc.value(a), own, spare);
+            own.join_below(value, spare);
             Some(first)
         }
     }
@@ -217,26 +188,24 @@ fn join_attribute(
 /// The value of the `xml:base` rows among the attribute rows from `from` to before `until`.
 fn join_attributes(
     doc: &Doc<'_>,
-    own: &mut Vec<u8>,
+    own: &mut Joined,
     spare: &mut Vec<u8>,
-    room: usize,
     from: u32,
     until: u32,
 ) -> Option<u32>
     requires rows { until ≤ length doc.now }
-    requires own_room { room ≤ vec_capacity own.old }
-    requires spare_room { room ≤ vec_capacity spare.old }
-    requires enough { weights doc.now (filter (is_base doc.now) (range_with_len from (until - from))) ≤ room }
-    ensures value { with_value result own.new.items
+    requires room { weights doc.now (filter (is_base doc.now) (range_with_len from (until - from))) ≤ own.old.room }
+    requires spare { weights doc.now (filter (is_base doc.now) (range_with_len from (until - from))) ≤ vec_capacity spare.old }
+    ensures value { with_value result own.new.value
         ≡ with_bases doc.now None (filter (is_base doc.now) (range_with_len from (until - from))) }
     ensures there { IfSome result (λ b. b < length doc.now) }
-    ensures few { filled result own.new.items ≤ weights doc.now (filter (is_base doc.now) (range_with_len from (until - from))) }
-    ensures own_room { room ≤ vec_capacity own.new }
-    ensures spare_room { room ≤ vec_capacity spare.new }
+    ensures few { filled result own.new.value ≤ weights doc.now (filter (is_base doc.now) (range_with_len from (until - from))) }
+    ensures room { own.new.room ≡ own.old.room }
+    ensures capacity { vec_capacity spare.old ≤ vec_capacity spare.new }
 {
     let mut place = None;
     for a in from..until {
-        place = join_attribute(doc, own, spare, room, place, a);
+        place = join_attribute(doc, own, spare, place, a);
     }
     place
 }
@@ -247,21 +216,18 @@ fn join_element(doc: &Doc<'_>, runs: &[u32], joining: &mut Joining, x: u32, b: u
     requires runs_fit { All (λ b. b < length doc.now) runs.now }
     requires row { b < length doc.now }
     requires nearest { Some b ≡ slice_get (run_on doc.now runs.now) 0 }
-    requires fit { BasesFit joining.old }
-    requires enough { weights doc.now (bases doc.now x) + weights doc.now (run_on doc.now runs.now) ≤ joining.old.room }
-    requires joined { joining.old.nearest ≡ Some b → Some (b, joining.old.run.items) ≡ with_bases doc.now None (run_on doc.now runs.now) }
+    requires fit { BasesFit (weights doc.now (bases doc.now x) + weights doc.now (run_on doc.now runs.now)) joining.old }
+    requires joined { joining.old.nearest ≡ Some b → Some (b, joining.old.run.value) ≡ with_bases doc.now None (run_on doc.now runs.now) }
     ensures value { found_of result joining.new ≡ with_bases doc.now None (bases doc.now x ++ run_on doc.now runs.now) }
     ensures there { FoundThere doc.now result }
     ensures joined { JoinedLast joining.old joining.new b (with_bases doc.now None (run_on doc.now runs.now)) }
-    ensures fit { BasesFit joining.new }
-    ensures room { joining.new.room ≡ joining.old.room }
+    ensures kept { KeepsBases joining.old joining.new }
 {
     let rows = doc.own_rows(x);
     let own = join_attributes(
         doc,
         &mut joining.own,
         &mut joining.spare,
-        joining.room,
         rows.first_attribute,
         rows.first_child,
     );
@@ -271,13 +237,7 @@ fn join_element(doc: &Doc<'_>, runs: &[u32], joining: &mut Joining, x: u32, b: u
             Found::Run(b)
         }
         Some(place) => {
-            join_run(
-                doc,
-                runs,
-                &mut joining.own,
-                &mut joining.spare,
-                joining.room,
-            );
+            join_run(doc, runs, &mut joining.own, &mut joining.spare);
             Found::Own(place)
         }
     }

@@ -18,6 +18,7 @@ use crate::imports::Ordered;
 use crate::namespaces::Method;
 use crate::stacks::Stacks;
 use crate::walk::{walked_range, write_nothing, write_rows, write_walked};
+use c14n_bases::Joined;
 use node_sets::SetView;
 use sig_base::{NoMemory, OctetSink, Put};
 use std::alloc::Global;
@@ -161,21 +162,19 @@ fn greatest_sum(doc: &Doc<'_>, counted: Counted, start: u32, until: u32) -> Resu
     Ok(most)
 }
 
-/// Buffers of this size, in which values of `xml:base` are joined.
+/// Memory in which values of `xml:base` are joined, where that takes this many octets.
 fn buffers(alloc: Global, room: usize) -> Result<Joining, NoMemory>
-    ensures fit { IfOk result (λ j. BasesFit j) }
-    ensures room { IfOk result (λ j. j.room ≡ room) }
+    ensures fit { IfOk result (λ j. BasesFit room j) }
     ensures nearest { IfOk result (λ j. j.nearest ≡ None) }
 {
-    let run = Vec::with_capacity(alloc, room)?;
-    let own = Vec::with_capacity(alloc, room)?;
+    let run = Joined::with_room(alloc, room)?;
+    let own = Joined::with_room(alloc, room)?;
     let spare = Vec::with_capacity(alloc, room)?;
     Ok(Joining {
         nearest: None,
         run,
         own,
         spare,
-        room,
     })
 }
 

@@ -1,4 +1,4 @@
-use Rattle.std.specs.Prelude.{◌≡◌, ◌<◌, ℕ, List, [], ◌∷◌, length, Option, Some, None, option_map, IfSome, ◌⊎◌, if◌then◌else◌}
+use Rattle.std.specs.Prelude.{◌≡◌, ◌<◌, ◌≤◌, ℕ, List, [], ◌∷◌, length, vec_capacity, Option, Some, None, option_map, IfSome, ◌⊎◌, if◌then◌else◌}
 use Rattle.xml_doc.specs.Rows.{RowOf}
 use Rattle.c14n_text.specs.Bases.{is_base}
 use Rattle.c14n_rows.specs.declared.bases.Base.{Base}
@@ -16,8 +16,8 @@ base_of o = option_map (λ (b : Base). (b.place, b.value.now)) o
 
 abbrev pub found_of : Found → Joining → Option (ℕ × List ℕ)
 found_of Nothing joining = None
-found_of (Run place) joining = Some (place, joining.run.items)
-found_of (Own place) joining = Some (place, joining.own.items)
+found_of (Run place) joining = Some (place, joining.run.value)
+found_of (Own place) joining = Some (place, joining.own.value)
 
 -- its row is one of the document
 abbrev pub BaseThere : List RowOf → Option Base → Type 0
@@ -32,12 +32,18 @@ FoundThere rows (Own place) = place < length rows
 abbrev pub if_base : List RowOf → ℕ → List ℕ
 if_base rows a = if is_base rows a then a ∷ [] else []
 
--- how many octets are in a buffer that has a value where there is a row
+-- how many octets a value has, where there is a row
 abbrev pub filled : Option ℕ → List ℕ → ℕ
 filled None value = 0
 filled (Some place) value = length value
 
+-- no room was lost
+pub record KeepsBases (old new : Joining) : Type 0 where
+  pub run : old.run.room ≤ new.run.room
+  pub own : old.own.room ≤ new.own.room
+  pub spare : vec_capacity old.spare ≤ vec_capacity new.spare
+
 -- the run that was joined last is the one whose nearest row is b, with this value, or the one from before
 abbrev pub JoinedLast : (old new : Joining) → ℕ → Option (ℕ × List ℕ) → Type 0
 JoinedLast old new b value =
-    ((new.nearest ≡ Some b) × (Some (b, new.run.items) ≡ value)) ⊎ ((new.nearest ≡ old.nearest) × (new.run.items ≡ old.run.items))
+    ((new.nearest ≡ Some b) × (Some (b, new.run.value) ≡ value)) ⊎ ((new.nearest ≡ old.nearest) × (new.run.value ≡ old.run.value))

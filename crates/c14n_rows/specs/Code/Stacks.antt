@@ -19,6 +19,7 @@ use Rattle.c14n_rows.specs.declared.stacks.Stacks.{Stacks}
 use Rattle.c14n_rows.specs.declared.renderer.Counted.{Counted}
 use Rattle.c14n_rows.specs.declared.renderer.Counted.TheVariants.{Entries, Values}
 use Rattle.c14n_rows.specs.Joined.{BasesFit}
+use Rattle.c14n_rows.specs.Code.Joined.{KeepsBases}
 use Rattle.c14n_rows.specs.Stacks.{upwards, count_of, octets_of, total}
 
 -- namespace row z is of this prefix
@@ -99,7 +100,7 @@ frame_start rows set rule x = if x == 0 then 0 else length (slots_at rows set ru
 -- the run that was joined last is that of the element whose row is kept
 abbrev pub IsJoined : List RowOf → (ℕ → Bool) → Stacks → Type 0
 IsJoined rows set stacks = IfSome stacks.joining.nearest
-    (λ b. Some (b, stacks.joining.run.items) ≡ with_bases rows None (run_bases rows set (parent_of rows b)))
+    (λ b. Some (b, stacks.joining.run.value) ≡ with_bases rows None (run_bases rows set (parent_of rows b)))
 
 pub record StacksAt (rows : List RowOf) (set : ℕ → Bool) (rule : Rule) (x : ℕ) (stacks : Stacks) : Type 0 where
   pub slots_are : stacks.slots.items ≡ slots_at rows set rule x
@@ -131,8 +132,7 @@ pub record IsTaken (entries values : ℕ) (stacks : Stacks) : Type 0 where
   pub xml : entries ≤ vec_capacity stacks.xml
   pub runs : entries ≤ vec_capacity stacks.runs
   pub marks : entries ≤ vec_capacity stacks.marks
-  pub octets : stacks.joining.room ≡ values
-  pub fit : BasesFit stacks.joining
+  pub joining : BasesFit values stacks.joining
 
 pub record IsTakenFor (entries : ℕ) (ordered : Ordered) : Type 0 where
   pub attributes : entries ≤ vec_capacity ordered.attributes
@@ -144,8 +144,7 @@ pub record Keeps (old new : Stacks) : Type 0 where
   pub xml : vec_capacity old.xml ≤ vec_capacity new.xml
   pub runs : vec_capacity old.runs ≤ vec_capacity new.runs
   pub marks : vec_capacity old.marks ≤ vec_capacity new.marks
-  pub octets : old.joining.room ≡ new.joining.room
-  pub fit : BasesFit old.joining → BasesFit new.joining
+  pub joining : KeepsBases old.joining new.joining
 
 pub record KeepsOrdered (old new : Ordered) : Type 0 where
   pub attributes : vec_capacity old.attributes ≤ vec_capacity new.attributes

@@ -9,8 +9,8 @@ use Rattle.c14n_rows.proofs.bases.join_attributes.Given as goal
 abbrev pub invariant-loop-a : goal.invariant-loop-a
 invariant-loop-a l = record {
   there : IfSome l.place (λ b. b < length l.doc);
-  rest : with_bases l.doc (with_value l.place l.own.items) (filter (is_base l.doc) (numbers l.a l.until)) ≡ with_bases l.doc None (filter (is_base l.doc) (numbers l.from l.until));
-  few : filled l.place l.own.items + weights l.doc (filter (is_base l.doc) (numbers l.a l.until)) ≤ weights l.doc (filter (is_base l.doc) (numbers l.from l.until));
-  own_room : l.room ≤ vec_capacity l.own;
-  spare_room : l.room ≤ vec_capacity l.spare;
+  rest : with_bases l.doc (with_value l.place l.own.value) (filter (is_base l.doc) (numbers l.a l.until)) ≡ with_bases l.doc None (filter (is_base l.doc) (numbers l.from l.until));
+  few : filled l.place l.own.value + weights l.doc (filter (is_base l.doc) (numbers l.a l.until)) ≤ weights l.doc (filter (is_base l.doc) (numbers l.from l.until));
+  room : l.own.room ≡ l.initial.own.room;
+  capacity : vec_capacity l.initial.spare ≤ vec_capacity l.spare;
 }

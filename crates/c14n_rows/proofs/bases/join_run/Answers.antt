@@ -15,23 +15,32 @@ loop-i-init c =
     let rows = c.args.doc.now in let runs = c.args.runs.now in
     let all : take (length runs) runs ≡ runs = take_all (length runs) runs (omega arith) in
     let w = ap (λ (l : List ℕ). weights rows (run_on rows l)) all in
-    let enough = c.requires.enough in
     record {
       within = omega arith;
-      rest = λ (place : ℕ). ap (λ (l : List ℕ). with_bases rows (Some (place, c.args.value.now.items)) (run_on rows l)) all;
+      rest = λ (place : ℕ). ap (λ (l : List ℕ). with_bases rows (Some (place, c.args.joined.now.value)) (run_on rows l)) all;
       enough = omega arith;
-      value_room = c.requires.value_room;
-      spare_room = c.requires.spare_room;
+      room = refl;
+      capacity = omega arith;
     }
 
-pub join_value-requires : goal.join_value-requires
-join_value-requires c =
+pub join_below-requires-clause-room : goal.join_below-requires-clause-room
+join_below-requires-clause-room c =
     let rows = c.args.doc.now in let i = c.loop-i.i in
     let inner : is_element (kind_of rows _) ≡ false = ap is_element (sym c.kind.ensures) ∙ sym c.is_element.ensures ∙ c.if-is_element.false in
     let more = run-more rows c.args.runs.now i _ c.loop-i-test.true c.loop-i.invariant.within refl inner in
     let w = ap (weights rows) more in
     let v = ap (length {A = ℕ}) c.value.ensures in
-    let e = c.loop-i.invariant.enough in let s = c.loop-i.invariant.spare_room in
+    let e = c.loop-i.invariant.enough in let s = c.loop-i.invariant.room in let r = c.requires.room in
+    omega arith
+
+pub join_below-requires-clause-spare : goal.join_below-requires-clause-spare
+join_below-requires-clause-spare c =
+    let rows = c.args.doc.now in let i = c.loop-i.i in
+    let inner : is_element (kind_of rows _) ≡ false = ap is_element (sym c.kind.ensures) ∙ sym c.is_element.ensures ∙ c.if-is_element.false in
+    let more = run-more rows c.args.runs.now i _ c.loop-i-test.true c.loop-i.invariant.within refl inner in
+    let w = ap (weights rows) more in
+    let v = ap (length {A = ℕ}) c.value.ensures in
+    let e = c.loop-i.invariant.enough in let s = c.loop-i.invariant.capacity in let r = c.requires.spare in
     omega arith
 
 pub loop-i-preserved : goal.loop-i-preserved
@@ -40,19 +49,20 @@ loop-i-preserved c =
     let inner : is_element (kind_of rows _) ≡ false = ap is_element (sym c.kind.ensures) ∙ sym c.is_element.ensures ∙ c.if-is_element.false in
     let more = run-more rows c.args.runs.now i _ c.loop-i-test.true c.loop-i.invariant.within refl inner in
     let w = ap (weights rows) more in
-    let v = ap (length {A = ℕ}) c.value.ensures in
+    let base = c.as_bytes.ensures.value ∙ c.value.ensures in
+    let v = ap (length {A = ℕ}) base in
     let e = c.loop-i.invariant.enough in let within = c.loop-i.invariant.within in
-    let n = ap (length {A = ℕ}) c.join_value.ensures.items in
-    let few = join-length c.value.result.now c.loop-i.value.items in
+    let n = ap (length {A = ℕ}) c.join_below.ensures.value in
+    let few = join-length c.as_bytes.result.now c.loop-i.joined.value in
     let left = run_on rows (take (i - 1) c.args.runs.now) in
     record {
       within = omega arith;
       rest = λ (place : ℕ).
-          ap (λ (l : List ℕ). with_bases rows (Some (place, l)) left) (c.join_value.ensures.items ∙ ap (λ (b : List ℕ). join b c.loop-i.value.items) c.value.ensures)
-          ∙ ap (with_bases rows (Some (place, c.loop-i.value.items))) (sym more) ∙ c.loop-i.invariant.rest place;
+          ap (λ (l : List ℕ). with_bases rows (Some (place, l)) left) (c.join_below.ensures.value ∙ ap (λ (b : List ℕ). join b c.loop-i.joined.value) base)
+          ∙ ap (with_bases rows (Some (place, c.loop-i.joined.value))) (sym more) ∙ c.loop-i.invariant.rest place;
       enough = omega arith;
-      value_room = let s = c.loop-i.invariant.spare_room in let k = c.join_value.ensures.value_capacity in omega arith;
-      spare_room = let s = c.loop-i.invariant.value_room in let k = c.join_value.ensures.spare_capacity in omega arith;
+      room = c.join_below.ensures.room ∙ c.loop-i.invariant.room;
+      capacity = let s = c.loop-i.invariant.capacity in let k = c.join_below.ensures.capacity in omega arith;
     }
 
 pub returns-then-is_element-clause-joined : goal.returns-then-is_element-clause-joined
@@ -60,11 +70,11 @@ returns-then-is_element-clause-joined c = λ (place : ℕ).
     let rows = c.args.doc.now in let i = c.loop-i.i in
     let outer : is_element (kind_of rows _) ≡ true = ap is_element (sym c.kind.ensures) ∙ sym c.is_element.ensures ∙ c.if-is_element.true in
     let none = run-stops rows c.args.runs.now i _ c.loop-i-test.true c.loop-i.invariant.within refl outer in
-    sym (ap (with_bases rows (Some (place, c.loop-i.value.items))) none) ∙ c.loop-i.invariant.rest place
+    sym (ap (with_bases rows (Some (place, c.loop-i.joined.value))) none) ∙ c.loop-i.invariant.rest place
 
 pub returns-clause-joined : goal.returns-clause-joined
 returns-clause-joined c = λ (place : ℕ).
     let rows = c.args.doc.now in
     let z : c.loop-i.i ≡ 0 = let t = c.loop-i-test.false in omega arith in
     let none = ap (λ (n : ℕ). run_on rows (take n c.args.runs.now)) z ∙ run_on-none rows c.args.runs.now in
-    sym (ap (with_bases rows (Some (place, c.loop-i.value.items))) none) ∙ c.loop-i.invariant.rest place
+    sym (ap (with_bases rows (Some (place, c.loop-i.joined.value))) none) ∙ c.loop-i.invariant.rest place

@@ -7,10 +7,10 @@ use Rattle.c14n_rows.proofs.bases.join_run.Given as goal
 abbrev pub invariant-loop-i : goal.invariant-loop-i
 invariant-loop-i l = record {
   within : l.i ≤ length l.runs;
-  rest : (place : ℕ) → with_bases l.doc (Some (place, l.value.items)) (run_on l.doc (take l.i l.runs)) ≡ with_bases l.doc (Some (place, l.initial.value.items)) (run_on l.doc l.runs);
-  enough : length l.value.items + weights l.doc (run_on l.doc (take l.i l.runs)) ≤ l.room;
-  value_room : l.room ≤ vec_capacity l.value;
-  spare_room : l.room ≤ vec_capacity l.spare;
+  rest : (place : ℕ) → with_bases l.doc (Some (place, l.joined.value)) (run_on l.doc (take l.i l.runs)) ≡ with_bases l.doc (Some (place, l.initial.joined.value)) (run_on l.doc l.runs);
+  enough : length l.joined.value + weights l.doc (run_on l.doc (take l.i l.runs)) ≤ length l.initial.joined.value + weights l.doc (run_on l.doc l.runs);
+  room : l.joined.room ≡ l.initial.joined.room;
+  capacity : vec_capacity l.initial.spare ≤ vec_capacity l.spare;
 }
 
 abbrev pub decreases-loop-i : goal.decreases-loop-i

@@ -4,12 +4,13 @@ use Rattle.node_sets.specs.View.{in_view}
 use Rattle.c14n_text.specs.Rows.{parent_of}
 use Rattle.c14n_text.specs.Bases.{bases, omitted_bases, with_bases}
 use Rattle.c14n_rows.specs.Rules.{rule_of}
-use Rattle.c14n_rows.specs.Joined.{weights, BasesFit}
+use Rattle.c14n_rows.specs.Joined.{weights}
+use Rattle.c14n_rows.specs.Stacks.{total, octets_of, upwards}
 use Rattle.c14n_rows.specs.Code.Stacks.{run_on}
 use Rattle.c14n_rows.proofs.Chains.{parent_there}
 use Rattle.c14n_rows.proofs.RunLemmas.{run_fits}
 use Rattle.c14n_rows.proofs.BaseLemmas.{none_is, some_is, joined_before, joined_after, joined-out, joined-none, joined-some, run_here}
-use Rattle.c14n_rows.proofs.StacksLemmas.{keeps-all}
+use Rattle.c14n_rows.proofs.StacksLemmas.{bases-fewer, keeps-all}
 use Rattle.c14n_rows.proofs.bases.joined_base.Goals as goal
 
 pub returns-then-not-joins-clause-value : goal.returns-then-not-joins-clause-value
@@ -37,15 +38,12 @@ pub join_element-requires-clause-runs_fit : goal.join_element-requires-clause-ru
 join_element-requires-clause-runs_fit c = rw c.deref-in-Some.ensures.value c.requires.stacks.runs_fit
 
 pub join_element-requires-clause-fit : goal.join_element-requires-clause-fit
-join_element-requires-clause-fit c = c.requires.room.fit
-
-pub join_element-requires-clause-enough : goal.join_element-requires-clause-enough
-join_element-requires-clause-enough c =
+join_element-requires-clause-fit c =
     let rows = c.args.doc.now in let set = in_view c.args.set in let rule = rule_of c.args.method in let x = c.args.x in
     let run = run_here rows set rule x c.rows-rows.ensures.shaped c.requires.here (sym c.if-not-joins.ensures) c.args.stacks.now.runs.items c.requires.stacks.runs_are in
     let w = ap (weights rows) (ap (run_on rows) c.deref-in-Some.ensures.value ∙ run) in
-    let few = run_fits rows c.rows-rows.ensures.shaped set x c.args.stacks.now.joining.room c.requires.below c.requires.here c.requires.room.octets in
-    omega arith
+    let few = run_fits rows c.rows-rows.ensures.shaped set x (total (octets_of rows) (upwards rows x)) c.requires.below c.requires.here (omega arith) in
+    bases-fewer _ (total (octets_of rows) (upwards rows x)) c.args.stacks.now.joining (omega arith) c.requires.room.joining
 
 pub join_element-requires-clause-joined : goal.join_element-requires-clause-joined
 join_element-requires-clause-joined c = λ (same : c.args.stacks.now.joining.nearest ≡ Some c.in-Some.b).
@@ -53,7 +51,7 @@ join_element-requires-clause-joined c = λ (same : c.args.stacks.now.joining.nea
     let w = c.rows-rows.ensures.shaped in
     let run = run_here rows set rule x w c.requires.here (sym c.if-not-joins.ensures) c.args.stacks.now.runs.items c.requires.stacks.runs_are in
     let first = c.in-Some.ensures.nearest ∙ ap (λ (l : List ℕ). slice_get (run_on rows l) 0) c.deref.ensures.value ∙ ap (λ (l : List ℕ). slice_get l 0) run in
-    joined_before rows w set (parent_of rows x) (parent_there rows w x c.requires.here) c.args.stacks.now.joining.nearest c.args.stacks.now.joining.run.items c.in-Some.b first c.requires.stacks.is_joined same
+    joined_before rows w set (parent_of rows x) (parent_there rows w x c.requires.here) c.args.stacks.now.joining.nearest c.args.stacks.now.joining.run.value c.in-Some.b first c.requires.stacks.is_joined same
     ∙ sym (ap (with_bases rows None) (ap (run_on rows) c.deref-in-Some.ensures.value ∙ run))
 
 pub returns-in-Some-clause-value : goal.returns-in-Some-clause-value
@@ -88,6 +86,5 @@ returns-in-Some-clause-kept c = record {
   xml = omega arith;
   runs = omega arith;
   marks = omega arith;
-  octets = sym c.join_element.ensures.room;
-  fit = λ (f : BasesFit c.args.stacks.now.joining). c.join_element.ensures.fit;
+  joining = c.join_element.ensures.kept;
 }

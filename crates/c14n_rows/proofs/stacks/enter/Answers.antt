@@ -1,9 +1,8 @@
-use Rattle.std.proofs.Common.{◌≡◌, ap, sym, refl, ◌∙◌, arith}
+use Rattle.std.proofs.Common.{◌≡◌, ap, sym, ◌∙◌, arith}
 use Rattle.xml_doc.specs.Kinds.{is_element}
 use Rattle.node_sets.specs.View.{in_view}
-use Rattle.c14n_rows.specs.Joined.{BasesFit}
 use Rattle.c14n_rows.specs.Rules.{rule_of}
-use Rattle.c14n_rows.proofs.StacksLemmas.{stacks-skip, keeps-all}
+use Rattle.c14n_rows.proofs.StacksLemmas.{stacks-skip, bases-all, keeps-all}
 use Rattle.c14n_rows.proofs.stacks.enter.Goals as goal
 
 pub returns-then-is_element-clause-stacks : goal.returns-then-is_element-clause-stacks
@@ -23,8 +22,7 @@ returns-then-is_element-clause-kept c = record {
   xml = c.enter_xml.ensures.capacity;
   runs = c.enter_run.ensures.capacity;
   marks = omega arith;
-  octets = refl;
-  fit = λ (f : BasesFit c.args.stacks.now.joining). f;
+  joining = bases-all c.args.stacks.now.joining;
 }
 
 pub returns-else-is_element-clause-stacks : goal.returns-else-is_element-clause-stacks

@@ -1,5 +1,5 @@
-use Rattle.std.proofs.Common.{refl, arith}
-use Rattle.c14n_rows.specs.Joined.{BasesFit}
+use Rattle.std.proofs.Common.{arith}
+use Rattle.c14n_rows.proofs.StacksLemmas.{bases-all}
 use Rattle.c14n_rows.proofs.stacks.mark_prefixes.Goals as goal
 
 pub returns-clause-stacks : goal.returns-clause-stacks
@@ -21,6 +21,5 @@ returns-clause-kept c = record {
   xml = omega arith;
   runs = omega arith;
   marks = c.mark_utilized.ensures.capacity;
-  octets = refl;
-  fit = λ (f : BasesFit c.args.stacks.now.joining). f;
+  joining = bases-all c.args.stacks.now.joining;
 }
