@@ -7,7 +7,7 @@ answered and output is caught in memory. An input that ends in a new way, and wh
 by itself with a status of 0 to 3, give all memory back, need no more than 1 MiB of stack, and:
 
 - a verdict or what was asked for stands on out alone, a refusal is one line on err with nothing on out and no view;
-- a document is valid only with views that were signed under its key file, in an example or in the same process, and out tells their lengths;
+- a document is valid only with views that were signed under its first key, in an example or in the same process, and out tells their lengths;
 - no file outside the folder is asked for, and none of a Reference before the signature value is found right;
 - what `sign` writes is valid, and signing it again changes nothing; a canonical form of a document or an element is its own
   canonical form; what `template` writes can be read; one input in 16 is run twice, and ends in the same way again.
@@ -301,10 +301,16 @@ static uint64_t sum(const void *octets, long size, uint64_t sum) {
 static int are_same(const struct octets *one, const struct octets *other) { return one->size == other->size && !memcmp(one->at, other->at, one->size); }
 static int begins(const struct octets *text, const char *with) { return text->size >= (long)strlen(with) && !memcmp(text->at, with, strlen(with)); }
 static int is_line(const struct octets *text, const char *with) { return begins(text, with) && memchr(text->at, '\n', text->size) == text->at + text->size - 1; }
-static int is_known(const struct ending *ending, int from_now_on) {  // whether such views are signed under the key file
+static struct octets first_key(const struct octets *keys) {  // its digits: examples may share a key
+    long at = 0, end;
+    while (at < keys->size && keys->at[at] == '#') at = in_front_of(keys->at, keys->size, at, "\n") + 1;
+    end = in_front_of(keys->at, keys->size, at, " ");
+    return (struct octets){keys->at + at, end - at};
+}
+static int is_known(const struct ending *ending, int from_now_on) {  // whether such views are signed under the first key
     static uint64_t known[1 << 16];
-    const struct octets *keys = &EXAMPLES[example].keys, *views = &ending->view_octets;
-    uint64_t both = sum(views->at, views->size, sum(keys->at, keys->size, 1)), k = both & 0xffff;
+    const struct octets key = first_key(&EXAMPLES[example].keys), *views = &ending->view_octets;
+    uint64_t both = sum(views->at, views->size, sum(key.at, key.size, 1)), k = both & 0xffff;
     while (known[k] && known[k] != both) k = (k + 1) & 0xffff;
     if (from_now_on) known[k] = both;
     return known[k] == both;
