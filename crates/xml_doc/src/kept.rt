@@ -91,16 +91,16 @@ impl<'a> Rare<'a> {
             body_from: row.body_from,
         }
     }
+}
 
-    /// Whether all are empty.
-    fn is_none(&self) -> bool
-        ensures { result ≡ true → rare_of self.now ≡ no_rare }
-    {
-        self.tag_from == 0
-            && self.body_from == 0
-            && self.prefix_text.is_empty()
-            && self.uri.is_empty()
-    }
+/// Whether a row says nothing in these fields, as most rows do.
+fn has_no_rare(row: &Row<'_>) -> bool
+    ensures { result ≡ true → rare_in (row_of row.now) ≡ no_rare }
+{
+    row.tag_from == 0
+        && row.body_from == 0
+        && row.prefix_text.is_empty()
+        && row.uri.is_empty()
 }
 
 /// The fields at that place.
@@ -115,18 +115,18 @@ pub(crate) fn rare_at<'a>(rares: &[Rare<'a>], place: u32) -> Rare<'a>
     }
 }
 
-/// Adds the fields where one of them says something, and answers where they stand.
-pub(crate) fn keep_rare<'a>(rares: &mut Vec<Rare<'a>>, rare: Rare<'a>) -> Result<u32, NoMemory>
-    ensures kept { IfOk result (λ place. rare_at (map rare_of rares.new.items) place ≡ rare_of rare.entry) }
+/// Adds these fields of a row where one of them says something, and answers where they stand.
+pub(crate) fn keep_rare<'a>(rares: &mut Vec<Rare<'a>>, row: &Row<'a>) -> Result<u32, NoMemory>
+    ensures kept { IfOk result (λ place. rare_at (map rare_of rares.new.items) place ≡ rare_in (row_of row.now)) }
     ensures placed { IfOk result (λ place. place ≤ length rares.new.items) }
     ensures extends { Extends (map rare_of rares.old.items) (map rare_of rares.new.items) }
 {
-    if rare.is_none() {
+    if has_no_rare(row) {
         return Ok(0);
     }
     if rares.len() >= u32::MAX as usize {
         return Err(NoMemory);
     }
-    rares.push(rare)?;
+    rares.push(Rare::of(row))?;
     Ok(rares.len() as u32)
 }

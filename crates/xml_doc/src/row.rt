@@ -95,7 +95,7 @@ impl<'a> RowList<'a> {
         ensures ok { OnOk result (self.new ≡ self.old ++ row_of member.entry ∷ []) }
         ensures err { OnErr result (self.new ≡ self.old) }
     {
-        let rare = keep_rare(&mut self.rares, Rare::of(&member))?;
+        let rare = keep_rare(&mut self.rares, &member)?;
         self.rows.push(Common::of(&member, rare))?;
         Ok(())
     }

@@ -11,9 +11,9 @@ use Rattle.std.proofs.lemmas.Str.{encode_ascii, len_utf8_ascii, IsCharBoundary-f
 use Rattle.std.proofs.lemmas.Str.Ascii.{IsAscii-from_all}
 use Rattle.sig_base.proofs.OptionLemmas.{some_is}
 use Rattle.xml_names.specs.Characters.{Range, one, span, in_range, in_some, name_start_ranges, more_name_ranges, is_char, is_name_char, is_name_start}
-use Rattle.xml_syntax.specs.Characters.{Placed, placed, utf8, front, behind, behind_first, begins, begins_with}
+use Rattle.xml_syntax.specs.Characters.{Placed, placed, utf8, front, behind, behind_first, begins, begins_with, passes_next}
 use Rattle.xml_syntax.specs.Classes.{is_between, is_plain, is_quote, is_value_char, value_code}
-use Rattle.xml_syntax.specs.Run.{in_run, ends_inner, begins_tag, IsTagBegin, IsTagNext, Takes}
+use Rattle.xml_syntax.specs.Run.{in_run, ends_inner, begins_tag, BeginsSmall, IsTagBegin, IsTagNext, Takes}
 use Rattle.xml_syntax.specs.declared.run.Run.{Run}
 use Rattle.xml_syntax.specs.declared.run.Run.TheVariants.{Text, Value, Name, Inner}
 use Rattle.xml_syntax.specs.Reading.{one_of, plain_of, until_of, value_part_of, value_of, text_follows, markup_of, tag_of}
@@ -325,6 +325,28 @@ tag_next (a ∷ (b ∷ bs)) at h = let P : ℕ → Type 0 = λ c. IsTagNext (pla
 
 pub sees_tag : (text octets : List ℕ) (at : ℕ) (xs : List Placed) → placed false at (chars text) ≡ xs → octets ≡ text → IsTagBegin octets → IsTagNext xs
 sees_tag text octets at xs view same h = subst IsTagNext view (tag_next text at (subst IsTagBegin same h))
+
+-- a small letter begins a name
+small_starts : (c : ℕ) → is_between 97 122 c ≡ true → is_name_start c ≡ true
+unfolding is_name_start
+small_starts c h =
+    in_later (one 58) (span 65 90 ∷ one 95 ∷ span 97 122 ∷ high_starts) c
+    (in_later (span 65 90) (one 95 ∷ span 97 122 ∷ high_starts) c (in_later (one 95) (span 97 122 ∷ high_starts) c (in_first (span 97 122) high_starts c h)))
+
+small_ascii : (c : ℕ) → is_between 97 122 c ≡ true → c < 128
+small_ascii c h = grind (arith, nat_tests)
+
+small_no_return : (c : ℕ) → is_between 97 122 c ≡ true → (c == 13) ≡ false
+small_no_return c h = grind (arith, nat_tests)
+
+small_next : (text : List ℕ) (at : ℕ) → BeginsSmall text → passes_next is_name_start (placed false at (chars text)) ≡ true
+small_next [] at h = absurd h
+small_next (c ∷ cs) at h = rw (chars_ascii c cs (small_ascii c h), small_no_return c h, and_false (c == 10)) (small_starts c h)
+
+pub begins_small : (text octets : List ℕ) (at : ℕ) (xs : List Placed) → placed false at (chars text) ≡ xs → octets ≡ text → BeginsSmall octets
+    → passes_next is_name_start xs ≡ true
+begins_small text octets at xs view same h =
+    subst (λ (t : List Placed). passes_next is_name_start t ≡ true) view (small_next text at (subst BeginsSmall same h))
 
 pub tag_begin : (octets : List ℕ) → 2 ≤ length octets → get_or octets 0 0 ≡ 60 → begins_tag (get_or octets 1 0) ≡ true → IsTagBegin octets
 tag_begin [] le a b = absurd (omega arith)

@@ -1,5 +1,5 @@
 -- Octets that stand for themselves, which are read in runs.
-use Rattle.std.specs.Prelude.{◌≡◌, ℕ, Bool, true, false, ◌||◌, List, [], ◌∷◌, ◌==◌, codes, if◌then◌else◌}
+use Rattle.std.specs.Prelude.{◌≡◌, ℕ, ◌<◌, Bool, true, false, ◌||◌, List, [], ◌∷◌, ◌==◌, codes, if◌then◌else◌}
 use Rattle.xml_syntax.specs.declared.run.Run.{Run}
 use Rattle.xml_syntax.specs.declared.run.Run.TheVariants.{Text, Value, Name, Inner}
 use Rattle.xml_names.specs.Characters.{Range, one, span, in_some, is_name_char}
@@ -56,6 +56,16 @@ abbrev pub IsTagBegin : List ℕ → Type 0
 IsTagBegin [] = ⊥
 IsTagBegin (a ∷ []) = ⊥
 IsTagBegin (a ∷ (b ∷ bs)) = (a ≡ 60) × (begins_tag b ≡ true)
+
+-- a small letter comes first
+abbrev pub BeginsSmall : List ℕ → Type 0
+BeginsSmall [] = ⊥
+BeginsSmall (c ∷ cs) = is_between 97 122 c ≡ true
+
+-- nothing comes, or an ASCII character that stands in no name
+abbrev pub EndsName : List ℕ → Type 0
+EndsName [] = Unit {0}
+EndsName (c ∷ cs) = (c < 128) × (in_run Name c ≡ false)
 
 -- A tag comes next, and no comment, CDATA section or instruction.
 abbrev pub IsTagNext : List Placed → Type 0

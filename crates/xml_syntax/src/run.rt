@@ -4,7 +4,7 @@ ghost use Rattle.std.specs.Char.{len_utf8};
 ghost use Rattle.std.specs.Str.{chars};
 ghost use Rattle.std.specs.List.{All};
 ghost use Rattle.xml_syntax.specs.Classes.{is_between};
-ghost use Rattle.xml_syntax.specs.Run.{IsTagBegin, behind_name, front_name, in_run, is_shown, is_shown_or_space};
+ghost use Rattle.xml_syntax.specs.Run.{BeginsSmall, EndsName, IsTagBegin, behind_name, front_name, in_run, is_shown, is_shown_or_space};
 
 use xml_names::is_name_char;
 
@@ -121,13 +121,37 @@ fn behind_name(text: &str) -> &str
     rest
 }
 
-/// The longest front of NameChars of a text, and what is behind it.
+// Whether a name ends here: nothing comes, or an ASCII character that stands in no name.
+fn ends_name(octets: &[u8]) -> bool
+    ensures { result ≡ true → EndsName octets.now }
+{
+    match octets {
+        [] => true,
+        [first, ..] => *first < 128 && !Run::Name.holds(*first),
+    }
+}
+
+/// The longest front of NameChars of a text, and what is behind it. Most names are ASCII, so these are taken as a run.
 pub fn split_name(text: &str) -> (&str, &str)
     ensures parts { text.now ≡ result.0.now ++ result.1.now }
     ensures name { result.0.now ≡ encode_utf8_all (front_name (chars text.now)) }
     ensures rest { chars result.1.now ≡ behind_name (chars text.now) }
 {
+    let (name, rest) = split_run(Run::Name, text);
+    if ends_name(rest.as_bytes()) {
+        return (name, rest);
+    }
     text.split_at(text.len() - behind_name(text).len())
+}
+
+/// Whether a small letter comes first, as in most names.
+pub fn begins_small(octets: &[u8]) -> bool
+    ensures { result ≡ true → BeginsSmall octets.now }
+{
+    match octets {
+        [] => false,
+        [first, ..] => is_small(*first),
+    }
 }
 
 /// Whether a text begins with `<` and an octet that begins a tag. Where it doesn't, a tag may come next too.

@@ -20,4 +20,4 @@ returns-in_err-push-clause-err c =
 pub returns-clause-ok : goal.returns-clause-ok
 returns-clause-ok c =
     rw (c.in_ok-push.ensures.items, ← c.self.view_is)
-    (one_row_more (map rare_of c.self.inside.rares.items) (map rare_of c.keep_rare.new.rares.items) (length c.self.inside.rares.items) (sym (length-map c.self.inside.rares.items rare_of)) c.keep_rare.ensures.extends c.self.inside.rows.items c.self.invariant c.of-2.result (row_of c.args.member) c.of-2.ensures.fields (rw c.of-2.ensures.place (c.in_ok-rare.ensures.kept ∙ c.of.ensures)))
+    (one_row_more (map rare_of c.self.inside.rares.items) (map rare_of c.keep_rare.new.rares.items) (length c.self.inside.rares.items) (sym (length-map c.self.inside.rares.items rare_of)) c.keep_rare.ensures.extends c.self.inside.rows.items c.self.invariant c.of.result (row_of c.args.member) c.of.ensures.fields (rw c.of.ensures.place c.in_ok-rare.ensures.kept))
