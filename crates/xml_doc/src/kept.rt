@@ -97,10 +97,7 @@ impl<'a> Rare<'a> {
 fn has_no_rare(row: &Row<'_>) -> bool
     ensures { result ≡ true → rare_in (row_of row.now) ≡ no_rare }
 {
-    row.tag_from == 0
-        && row.body_from == 0
-        && row.prefix_text.is_empty()
-        && row.uri.is_empty()
+    row.tag_from == 0 && row.body_from == 0 && row.prefix_text.is_empty() && row.uri.is_empty()
 }
 
 /// The fields at that place.
