@@ -252,11 +252,8 @@ clean-formed p f = record {
 -- ---- a joined value
 pub cleaned-clean : (p : Parts) → WellFormed p → (p.scheme ≡ None → has_scheme (cleaned_value p) ≡ false) → IsClean (cleaned_value p)
 cleaned-clean p f none =
-    let e = cut-together p.scheme p.authority (clean p.path) p.query (clean-formed p f) none (clean-single p.path p.query) in
-    record {
-      whole = ap cleaned_value e ∙ ap (λ (l : List ℕ). put_together p.scheme p.authority l p.query) (clean-clean p.path);
-      path = ap (λ (o : Parts). clean o.path) e ∙ clean-clean p.path ∙ sym (ap (λ (o : Parts). o.path) e);
-    }
+    ap cleaned_value (cut-together p.scheme p.authority (clean p.path) p.query (clean-formed p f) none (clean-single p.path p.query))
+    ∙ ap (λ (l : List ℕ). put_together p.scheme p.authority l p.query) (clean-clean p.path)
 
 pub joined-clean : (base own : List ℕ) → (is_some (below (cut base) (cut own)).scheme ≡ false → has_scheme (join base own) ≡ false) → IsClean (join base own)
 joined-clean base own none =

@@ -1,8 +1,8 @@
 -- What a cleaned value gives below a base, by what it begins with.
-use Rattle.std.proofs.Common.{◌≡◌, ℕ, Bool, true, false, not, cond, List, [], ◌∷◌, ◌++◌, refl, ap, sym, ◌∙◌, arith, append_assoc, append-nil, get_or}
+use Rattle.std.proofs.Common.{◌≡◌, ℕ, Bool, true, false, not, cond, List, [], ◌∷◌, ◌++◌, refl, ap, sym, ◌∙◌, append_assoc, append-nil}
 use Rattle.std.specs.Prelude.{Option, Some, None}
 use Rattle.c14n_bases.specs.Join.{Parts, is_empty, is_absolute, base_path, clean, relative_path, first_some, below, scheme_octets, authority_octets, query_octets, put_together, cleaned_value}
-use Rattle.c14n_bases.specs.declared.kind.Kind.TheVariants.{Scheme, Authority, Absolute, Empty, Relative}
+use Rattle.c14n_bases.specs.declared.kind.Kind.TheVariants.{Authority, Absolute, Empty, Relative}
 use Rattle.c14n_bases.specs.Code.Clean.{kind_of}
 use Rattle.c14n_bases.proofs.JoinLemmas.{clean-base_path}
 
@@ -11,17 +11,6 @@ parts s a p q = record { scheme = s; authority = a; path = p; query = q }
 
 abbrev roots : Parts → List ℕ
 roots b = scheme_octets b.scheme ++ authority_octets b.authority
-
-pub scheme-front : (b : Parts) (s a : Option (List ℕ)) (p : List ℕ) (q : Option (List ℕ)) (v : List ℕ) → put_together s a (clean p) q ≡ v → Scheme ≡ kind_of (parts s a p q)
-    → v ≡ cleaned_value (below b (parts s a p q))
-scheme-front b (Some s) a p q v whole k = sym whole
-scheme-front b None (Some a) p q v whole k = cc
-scheme-front b None None p q v whole k = absurd (go (is_absolute p) (is_empty p) k)
-  where
-    go : (x y : Bool) → Scheme ≡ cond x Absolute (cond y Empty Relative) → ⊥
-    go true y k = cc
-    go false true k = cc
-    go false false k = cc
 
 pub authority-front : (b : Parts) (s a : Option (List ℕ)) (p : List ℕ) (q : Option (List ℕ)) (v : List ℕ) → put_together s a (clean p) q ≡ v → Authority ≡ kind_of (parts s a p q)
     → scheme_octets b.scheme ++ v ≡ cleaned_value (below b (parts s a p q))
@@ -85,15 +74,10 @@ relative_parts None None p q k = let r = go (is_absolute p) (is_empty p) refl re
     go false true e f k = cc
     go false false e f k = (f, e)
 
-pub no_dot : (q : Option (List ℕ)) (cs : List ℕ) → query_octets q ≡ 46 ∷ cs → ⊥
-no_dot None cs e = cc
-no_dot (Some q) cs e = let f : 63 ≡ 46 = ap (λ (l : List ℕ). get_or l 0 0) e in omega (arith, f)
-
 -- the path and the query of a relative value
-pub relative-value : (s a : Option (List ℕ)) (p : List ℕ) (q : Option (List ℕ)) (v : List ℕ) → s ≡ None → a ≡ None → clean p ≡ p → put_together s a (clean p) q ≡ v → v ≡ p ++ query_octets q
-relative-value s a p q v no_scheme no_authority is whole =
-    sym whole ∙ ap (λ (o : Option (List ℕ)). put_together o a (clean p) q) no_scheme ∙ ap (λ (o : Option (List ℕ)). put_together None o (clean p) q) no_authority
-    ∙ ap (λ (l : List ℕ). l ++ query_octets q) is
+pub relative-value : (s a : Option (List ℕ)) (p : List ℕ) (q : Option (List ℕ)) → s ≡ None → a ≡ None → put_together s a p q ≡ p ++ query_octets q
+relative-value s a p q no_scheme no_authority =
+    ap (λ (o : Option (List ℕ)). put_together o a p q) no_scheme ∙ ap (λ (o : Option (List ℕ)). put_together None o p q) no_authority
 
 pub relative-front : (b : Parts) (s a : Option (List ℕ)) (p : List ℕ) (q : Option (List ℕ)) → s ≡ None → a ≡ None → is_empty p ≡ false → is_absolute p ≡ false
     → roots b ++ (clean (relative_path b p) ++ query_octets q) ≡ cleaned_value (below b (parts s a p q))

@@ -74,3 +74,16 @@ below_plain p s f relative =
         ∙ cleaned-empty (is_absolute (front ++ 47 ∷ [])) (is_open s) (segments front) (segments s)
         ∙ ap (λ (a : Bool). cleaned a (is_open s) (segments front ++ segments s)) (absolute-append front [] s)
         ∙ sym (clean-between front s) ∙ ap clean (sym (append_assoc front (47 ∷ []) s)) ∙ ap (λ (l : List ℕ). clean (l ++ s)) (sym some.1)
+
+-- a relative path in a directory
+pub below_directory : (d s : List ℕ) → (d ≡ []) ⊎ ((front : List ℕ) × (d ≡ front ++ 47 ∷ [])) → is_absolute s ≡ false
+    → clean (d ++ s) ≡ cleaned (is_absolute d) (is_open s) (segments d ++ segments s)
+below_directory d s (inl none) relative =
+    ap (λ (l : List ℕ). clean (l ++ s)) none ∙ ap (λ (a : Bool). cleaned a (is_open s) (segments s)) relative
+    ∙ ap (λ (l : List ℕ). cleaned (is_absolute l) (is_open s) (segments l ++ segments s)) (sym none)
+below_directory d s (inr (front, some)) relative =
+    ap (λ (l : List ℕ). clean (l ++ s)) some ∙ ap clean (append_assoc front (47 ∷ []) s) ∙ clean-between front s
+    ∙ ap (λ (a : Bool). cleaned a (is_open s) (segments front ++ segments s)) (absolute-append front s [])
+    ∙ sym (cleaned-empty (is_absolute (front ++ 47 ∷ [])) (is_open s) (segments front) (segments s))
+    ∙ ap (λ (l : List (List ℕ)). cleaned (is_absolute (front ++ 47 ∷ [])) (is_open s) (l ++ segments s)) (sym (segments-append front []))
+    ∙ ap (λ (l : List ℕ). cleaned (is_absolute l) (is_open s) (segments l ++ segments s)) (sym some)

@@ -1,22 +1,17 @@
 -- Joined values, as they stand in a buffer.
-use Rattle.std.proofs.Common.{◌≡◌, ℕ, ◌+◌, ◌-◌, ◌≤◌, ◌||◌, Bool, true, false, cond, List, ◌++◌, length, drop, refl, ap, sym, ◌∙◌, arith, length-append}
-use Rattle.std.specs.Prelude.{codes, Some, None, is_some}
-use Rattle.std.proofs.lemmas.List.{length-drop, drop-drop}
+use Rattle.std.proofs.Common.{◌≡◌, ℕ, ◌+◌, ◌||◌, Bool, true, false, cond, List, [], ◌++◌, length, drop, refl, ap, sym, ◌∙◌, append-nil}
+use Rattle.std.specs.Prelude.{is_some}
+use Rattle.std.proofs.lemmas.List.{drop-drop}
 use Rattle.std.proofs.Math.Seq.{drop-append_seam}
-use Rattle.c14n_bases.specs.Join.{Parts, is_absolute, is_empty, before, has_scheme, cut, below, joined_path, joined_query, join}
+use Rattle.c14n_bases.specs.Join.{Parts, is_absolute, is_empty, below, joined_path, joined_query}
 use Rattle.c14n_bases.specs.declared.kind.Kind.{Kind}
 use Rattle.c14n_bases.specs.declared.kind.Kind.TheVariants.{Scheme, Authority, Absolute, Empty, Relative}
 use Rattle.c14n_bases.specs.Code.Clean.{kind_of}
-use Rattle.c14n_bases.proofs.LengthLemmas.{join-length}
+use Rattle.c14n_bases.specs.declared.place.Start.{Start}
+use Rattle.c14n_bases.specs.Code.Climbs.{climbs}
+use Rattle.c14n_bases.specs.Code.Placed.{value_at}
 
 -- ---- the scheme
-some-if : (b : Bool) (s : List ℕ) → is_some (cond b (Some s) None) ≡ b
-some-if true s = refl
-some-if false s = refl
-
-pub scheme-there : (text : List ℕ) → is_some (cut text).scheme ≡ has_scheme text
-scheme-there text = some-if (has_scheme text) (before (codes ":/?#") text)
-
 pub below-scheme : (b o : Parts) → is_some (below b o).scheme ≡ (is_some b.scheme || is_some o.scheme)
 below-scheme b o = go (is_some o.scheme) refl (is_some o.authority)
   where
@@ -45,20 +40,18 @@ below_none b o kind k not = below-scheme b o ∙ ap (λ (x : Bool). is_some b.sc
     go true h = absurd (not (k ∙ ap (λ (x : Bool). cond x Scheme (cond (is_some o.authority) Authority (cond (is_absolute o.path) Absolute (cond (is_empty o.path) Empty Relative)))) h))
     go false h = h
 
--- ---- the room
-pub front-room : (base front value : List ℕ) (taken : ℕ) → taken ≤ length value → front ++ drop taken value ≡ join base value → length front ≤ length base + taken + 3
-front-room base front value taken within joins =
-    let most = join-length base value in
-    let e = sym (length-append front (drop taken value)) ∙ ap length joins in
-    let d = length-drop taken value in
-    omega arith
-
 -- ---- what stands behind a place
-pub later-same : (from at : ℕ) (old new : List ℕ) → from ≤ at → drop from new ≡ drop from old → drop at new ≡ drop at old
-later-same from at old new within same =
-    let e : from + (at - from) ≡ at = omega arith in
-    ap (λ (n : ℕ). drop n new) (sym e) ∙ sym (drop-drop (at - from) from new) ∙ ap (drop (at - from)) same ∙ drop-drop (at - from) from old ∙ ap (λ (n : ℕ). drop n old) e
-
 pub behind-same : (begin from : ℕ) (front old new : List ℕ) → begin + length front ≡ from → drop begin new ≡ front ++ drop from old → drop from new ≡ drop from old
 behind-same begin from front old new at is =
     ap (λ (n : ℕ). drop n new) (sym at) ∙ sym (drop-drop (length front) begin new) ∙ ap (drop (length front)) is ∙ drop-append_seam front (drop from old)
+
+pub nothing-behind : (xs : List ℕ) → drop (length xs) xs ≡ []
+nothing-behind xs = ap (drop (length xs)) (sym (append-nil xs)) ∙ drop-append_seam xs []
+
+-- what is put at the end stands there alone
+pub at-end : (begin : ℕ) (old front new : List ℕ) → drop begin new ≡ front ++ drop (length old) old → drop begin new ≡ front
+at-end begin old front new is =
+    is ∙ ap (λ (l : List ℕ). front ++ l) (nothing-behind old) ∙ append-nil front
+
+pub written-value : (start : Start) (from : ℕ) (buffer : List ℕ) → start.upwards ≡ 0 → start.from ≡ from → value_at start buffer ≡ drop from buffer
+written-value start from buffer none at = ap (λ (n : ℕ). climbs n ++ drop start.from buffer) none ∙ ap (λ (n : ℕ). drop n buffer) at

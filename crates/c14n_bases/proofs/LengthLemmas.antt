@@ -192,10 +192,20 @@ below-total b r = go (is_some r.scheme) (is_some r.authority)
     go false true = omega arith
     go false false = omega (arith, joined_path-length b r, joined_query-length b r)
 
+pub cleaned-length : (text : List ℕ) → length (cleaned_value (cut text)) ≤ length text + 2
+cleaned-length text = omega (arith, together-length (cut text), cut-total text)
+
 -- a joined value has no more octets than both and three
-pub join-length : (base own : List ℕ) → length (join base own) ≤ length base + length own + 3
-join-length base own = omega (arith, together-length (below (cut base) (cut own)), below-total (cut base) (cut own), cut-total base, cut-total own)
+pub join_length : (base own : List ℕ) → length (join base own) ≤ length base + length own + 3
+join_length base own = omega (arith, together-length (below (cut base) (cut own)), below-total (cut base) (cut own), cut-total base, cut-total own)
 
 pub cut-weight : (text : List ℕ) → parts_weight (cut text) ≤ length text
 unfolding total
 cut-weight text = cut-total text
+
+pub clean-most : (path : List ℕ) → length (clean path) ≤ length path + 2
+clean-most path = clean-length path
+
+-- a cleaned value has no more octets than the value and two
+pub value-most : (text : List ℕ) → length (cleaned_value (cut text)) ≤ length text + 2
+value-most text = omega (arith, together-length (cut text), cut-total text)

@@ -1,3 +1,4 @@
+pub mod UpwardsLemmas
 pub mod SurplusLemmas
 pub mod SegmentLemmas
 pub mod LedLemmas
@@ -11,3 +12,9 @@ pub mod CutLemmas
 pub mod CleanLemmas
 pub mod FormedLemmas
 pub mod JoinedLemmas
+pub mod ClimbLemmas
+pub mod BelowLemmas
+pub mod PreparedLemmas
+pub mod StandLemmas
+pub mod ValueLemmas
+pub mod StackLemmas

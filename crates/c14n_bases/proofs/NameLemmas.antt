@@ -1,15 +1,14 @@
--- The names of a path, and a cleaned path that is put below others.
-use Rattle.std.proofs.Common.{◌≡◌, ℕ, zero, suc, ◌+◌, ◌-◌, ◌||◌, ◌&&◌, ◌==◌, Bool, true, false, not, cond, List, [], ◌∷◌, ◌++◌, length, reverse, replicate, drop, refl, ap, sym, ◌∙◌, append_assoc, inl, inr, ◌⊎◌}
+-- The names of a path.
+use Rattle.std.proofs.Common.{◌≡◌, ℕ, zero, suc, ◌-◌, ◌||◌, ◌&&◌, ◌==◌, Bool, true, false, not, cond, List, [], ◌∷◌, ◌++◌, replicate, refl, ap, sym, ◌∙◌, append_assoc, inl, inr, ◌⊎◌}
 use Rattle.std.specs.Prelude.{codes}
 use Rattle.std.specs.List.{All, list_any, onto_first}
 use Rattle.std.proofs.lemmas.Bool.{false≢true, or_parts}
 use Rattle.std.proofs.lemmas.List.Elements.{All-nil, All-cons, All-head, All-tail}
-use Rattle.c14n_bases.specs.Join.{is_slash, is_same, is_up, is_open, is_absolute, last_segment, directory, segments, added, path_of, cleaned, clean}
+use Rattle.c14n_bases.specs.Join.{is_slash, is_same, is_up, is_open, last_segment, directory, segments}
 use Rattle.c14n_bases.specs.Code.Surplus.{surplus, names_kept}
-use Rattle.c14n_bases.specs.Code.Kept.{Names, ups, KeptIn}
-use Rattle.c14n_bases.specs.Code.Going.{IsName, IsRun, Going}
+use Rattle.c14n_bases.specs.Code.Going.{IsName}
 use Rattle.c14n_bases.proofs.SegmentLemmas.{directory-last, directory-form, segments-append, some_segment}
-use Rattle.c14n_bases.proofs.SurplusLemmas.{added-append, added-from, kept-is, surplus-append, names_kept-append}
+use Rattle.c14n_bases.proofs.SurplusLemmas.{surplus-append, names_kept-append}
 
 abbrev pub IsPlain : List ℕ → Type 0
 IsPlain s = list_any is_slash s ≡ false
@@ -128,42 +127,3 @@ closed_is path none = go (is_same (last_segment path)) (is_up (last_segment path
         some : (xs : List (List ℕ)) (s : List ℕ) → xs ++ s ∷ [] ≡ [] → ⊥
         some [] s e = cc
         some (x ∷ xs) s e = cc
-
--- ---- a cleaned path below others
-added-run : (absolute : Bool) (names : List (List ℕ)) (u : ℕ) (path : List ℕ) → Names names
-    → added absolute (names ++ ups absolute u) (replicate (surplus 0 (segments path)) (codes "..") ++ names_kept 0 (segments path)) ≡ added absolute (names ++ ups absolute u) (segments path)
-added-run absolute names u path n =
-    let sp = surplus 0 (segments path) in let nk = names_kept 0 (segments path) in let run = replicate sp (codes "..") ++ nk in
-    added-from absolute run names u n
-    ∙ ap (λ (l : List (List ℕ)). reverse l ++ drop (surplus 0 run) names ++ ups absolute (u + (surplus 0 run - length names))) (kept-run sp nk (path_names path))
-    ∙ ap (λ (k : ℕ). reverse nk ++ drop k names ++ ups absolute (u + (k - length names))) (surplus-run sp nk (path_names path))
-    ∙ sym (added-from absolute (segments path) names u n)
-
-pub run_of : (path behind value : List ℕ) → value ≡ path ++ behind → clean path ≡ path → is_absolute path ≡ false → ((cs : List ℕ) → behind ≡ 46 ∷ cs → ⊥)
-    → IsRun value (surplus 0 (segments path)) (names_kept 0 (segments path)) (is_open path) behind
-run_of path behind value are is relative ends = record {
-  are = are ∙ ap (λ (l : List ℕ). l ++ behind) (sym is ∙ ap (λ (b : Bool). cleaned b (is_open path) (segments path)) relative
-      ∙ ap (path_of false (is_open path)) (kept-is false (segments path)));
-  all = path_names path;
-  closed = closed_is path;
-  ends = ends;
-}
-
-pub going-begin : (absolute : Bool) (front path behind value dir items : List ℕ) (count : ℕ) → value ≡ path ++ behind → clean path ≡ path → is_absolute path ≡ false
-    → ((cs : List ℕ) → behind ≡ 46 ∷ cs → ⊥) → KeptIn absolute front (added absolute [] (segments dir)) items count
-    → Going absolute front (cleaned absolute (is_open path) (segments dir ++ segments path) ++ behind) items count value
-going-begin absolute front path behind value dir items count are is relative ends k =
-    let kept = added absolute [] (segments dir) in
-    record {
-      kept = kept;
-      stands = k;
-      upwards = surplus 0 (segments path);
-      names = names_kept 0 (segments path);
-      closing = is_open path;
-      behind = behind;
-      run = run_of path behind value are is relative ends;
-      goes = let run = replicate (surplus 0 (segments path)) (codes "..") ++ names_kept 0 (segments path) in
-          ap (λ (l : List (List ℕ)). path_of absolute (is_open path) (reverse l) ++ behind)
-          (ap (λ (l : List (List ℕ)). added absolute l run) k.split ∙ added-run absolute k.names k.upwards path k.only
-          ∙ ap (λ (l : List (List ℕ)). added absolute l (segments path)) (sym k.split) ∙ sym (added-append absolute [] (segments dir) (segments path)));
-    }

@@ -9,7 +9,7 @@ use crate::clean::{closes, cut_segment, is_same, is_up};
 use crate::value::Value;
 
 /// Puts octets in the buffer, which has room for them.
-fn push_all(into: &mut Vec<u8>, octets: &[u8])
+pub(crate) fn push_all(into: &mut Vec<u8>, octets: &[u8])
     requires { length into.old.items + length octets.now ≤ vec_capacity into.old }
     ensures items { into.new.items ≡ into.old.items ++ octets.now }
     ensures capacity { vec_capacity into.old ≤ vec_capacity into.new }
@@ -154,7 +154,7 @@ pub(crate) fn add_segments(
 }
 
 /// Puts the cleaned path of the segments of two texts in the buffer.
-fn push_path(into: &mut Vec<u8>, absolute: bool, first: &[u8], second: &[u8])
+pub(crate) fn push_path(into: &mut Vec<u8>, absolute: bool, first: &[u8], second: &[u8])
     requires { length into.old.items + (length first.now + length second.now) + 4 ≤ vec_capacity into.old }
     ensures items { into.new.items ≡ into.old.items ++ cleaned absolute (is_open second.now) (segments first.now ++ segments second.now) }
     ensures longer { length into.new.items ≤ length into.old.items + (length first.now + length second.now) + 4 }

@@ -33,7 +33,7 @@ pub(crate) fn whole<'a>(
 }
 
 /// Whether a base has an authority and an empty path.
-fn has_no_path(base: Parts<'_>) -> bool
+pub(crate) fn has_no_path(base: Parts<'_>) -> bool
     ensures { result ≡ (is_some (octets_of base.entry.authority) && is_empty base.entry.path.now) }
 {
     base.authority.is_some() && is_empty(base.path)

@@ -2,6 +2,10 @@
 ghost use Rattle.std.specs.Prelude.{◌≡◌, ◌||◌, ◌&&◌, not, ℕ, List, codes, is_some};
 ghost use Rattle.c14n_bases.specs.Join.{begins, below, cut, has_scheme, is_empty, join};
 ghost use Rattle.c14n_bases.specs.Code.Clean.{Fits, kind_of};
+ghost use Rattle.c14n_bases.specs.Code.Slices.{parts_of};
+
+use crate::clean::is_absolute;
+use crate::cut::{Parts, is_empty};
 
 /// The first part of a value that is there.
 #[derive(Clone, Copy)]
@@ -12,6 +16,23 @@ pub(crate) enum Kind {
     /// Its path is empty.
     Empty,
     Relative,
+}
+
+/// What parts begin with.
+pub(crate) fn kind_of_parts(parts: Parts<'_>) -> Kind
+    ensures { result ≡ kind_of (parts_of parts.entry) }
+{
+    if parts.scheme.is_some() {
+        Kind::Scheme
+    } else if parts.authority.is_some() {
+        Kind::Authority
+    } else if is_absolute(parts.path) {
+        Kind::Absolute
+    } else if is_empty(parts.path) {
+        Kind::Empty
+    } else {
+        Kind::Relative
+    }
 }
 
 /// Whether the path is empty of a value that has no scheme and no authority.

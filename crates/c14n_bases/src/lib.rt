@@ -4,10 +4,11 @@
 //! values are texts of any kind, relative ones too, and fragments are dropped. What it gives is `join` of
 //! `specs/Join.antt`. [`join_into`] does the same into a buffer, in linear time.
 //!
-//! [`Joined`] is for many bases: a value that is joined below one after another grows at its front, so that each base
-//! costs about its own length, and not the value's.
+//! [`Joined`] is for many bases, which [`Bases`] prepares once: a value that is joined below one after another grows at its
+//! front, so that each base costs about what is put there, and neither its own length nor the value's.
 #![tactic(auto)]
 
+mod bases;
 mod clean;
 mod cut;
 mod fill;
@@ -16,10 +17,14 @@ mod join;
 mod joined;
 mod kind;
 mod place;
+mod prepare;
 mod value;
 
+pub use bases::Bases;
 pub use join::join_base;
 pub use joined::Joined;
 
+#[cfg(test)]
+mod bases_tests;
 #[cfg(test)]
 mod tests;

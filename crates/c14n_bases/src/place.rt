@@ -1,82 +1,106 @@
 //! Where a value begins in a buffer, and what is known of it.
-ghost use Rattle.std.specs.Prelude.{◌≡◌, ℕ, ◌≤◌, List, drop, is_some, length};
-ghost use Rattle.c14n_bases.specs.Join.{below, cut, has_scheme, join};
-ghost use Rattle.c14n_bases.specs.Code.Placed.{Looked, Stands};
+ghost use Rattle.std.specs.Prelude.{◌≡◌, ◌≤◌, ◌*◌, ◌++◌, ℕ, List, false, codes, drop, is_some, length};
+ghost use Rattle.c14n_bases.specs.Join.{begins, below, cut, join};
+ghost use Rattle.c14n_bases.specs.Code.Climbs.{climbs};
+ghost use Rattle.c14n_bases.specs.Code.Placed.{Stands, Starts, value_at};
+ghost use Rattle.c14n_bases.specs.declared.kind.Kind.TheVariants.{Relative};
 
 use crate::cut::has_scheme;
 use crate::kind::{Kind, known_kind};
 
-/// A place in a buffer that was looked at, and whether a scheme begins there. It is kept, so that a long segment before
-/// which `..` come and go is not looked at each time.
+/// Where a value begins.
 #[derive(Clone, Copy)]
-pub(crate) struct Look {
-    pub at: usize,
+pub(crate) struct Start {
+    /// The place of what is written of it.
+    pub from: usize,
+    /// So many `../` before that are counted and not written.
+    pub upwards: usize,
+    /// Whether a scheme begins what is written. It is kept, so that a long segment is not looked at each time.
     pub is_scheme: bool,
 }
 
-/// Where a value begins, what is known of it, and what was looked at last.
+/// Where a value begins, and what is known of it.
 #[derive(Clone, Copy)]
 pub(crate) struct Place {
-    pub from: usize,
+    pub start: Start,
     pub kind: Option<Kind>,
-    pub look: Look,
 }
 
-/// A look at the end.
-pub(crate) fn look_at_end(buffer: &[u8]) -> Look
-    ensures { Looked result buffer.now }
-{
-    Look {
-        at: buffer.len(),
-        is_scheme: false,
-    }
-}
-
-/// A look that is so still where nothing has changed from `from` on.
-pub(crate) fn keep_look(look: Look, from: usize, buffer: &[u8]) -> Look
-    ensures { (old : List ℕ) → drop from buffer.now ≡ drop from old → length buffer.now ≡ length old → Looked look old
-        → Looked result buffer.now }
-{
-    if look.at < from {
-        look_at_end(buffer)
-    } else {
-        look
-    }
-}
-
-/// Whether a scheme begins at a place, and what is kept of that look.
-fn look_at(buffer: &[u8], from: usize, last: Look) -> (bool, Look)
-    requires within { from ≤ length buffer.now }
-    requires looked { Looked last buffer.now }
-    ensures is_scheme { result.0 ≡ has_scheme (drop from buffer.now) }
-    ensures looked { Looked result.1 buffer.now }
-{
-    let text = &buffer[from..];
-    if from == last.at {
-        (last.is_scheme, last)
-    } else if text.starts_with(b"../") {
-        (false, last)
-    } else {
-        let is_scheme = has_scheme(text);
-        (
-            is_scheme,
-            Look {
-                at: from,
-                is_scheme,
-            },
-        )
-    }
-}
-
-/// The place where a joined value begins, whose parts have a scheme or not.
-pub(crate) fn known_place(buffer: &[u8], from: usize, last: Look, with_scheme: bool) -> Place
-    requires within { from ≤ length buffer.now }
-    requires looked { Looked last buffer.now }
+/// The start of a value that is written as a whole.
+pub(crate) fn start_of(buffer: &[u8], from: usize) -> Start
+    requires { from ≤ length buffer.now }
     ensures from { result.from ≡ from }
-    ensures stands { (base own : List ℕ) → drop from buffer.now ≡ join base own
+    ensures upwards { result.upwards ≡ 0 }
+    ensures starts { Starts result buffer.now }
+{
+    Start {
+        from,
+        upwards: 0,
+        is_scheme: has_scheme(&buffer[from..]),
+    }
+}
+
+/// A start near another one, which is looked at no more where they are the same.
+pub(crate) fn start_near(buffer: &[u8], from: usize, upwards: usize, known: Start) -> Start
+    requires within { from ≤ length buffer.now }
+    requires room { 3 * upwards ≤ from }
+    requires known { Starts known buffer.now }
+    ensures from { result.from ≡ from }
+    ensures upwards { result.upwards ≡ upwards }
+    ensures starts { Starts result buffer.now }
+{
+    let is_scheme = if from == known.from {
+        known.is_scheme
+    } else {
+        has_scheme(&buffer[from..])
+    };
+    Start {
+        from,
+        upwards,
+        is_scheme,
+    }
+}
+
+/// With how many `../` a text begins.
+pub(crate) fn count_upwards(text: &[u8]) -> usize
+    ensures climbs { text.now ≡ climbs result ++ drop (3 * result) text.now }
+    ensures all { begins (codes "../") (drop (3 * result) text.now) ≡ false }
+    ensures within { 3 * result ≤ length text.now }
+{
+    let mut upwards = 0;
+    while text[3 * upwards..].starts_with(b"../") {
+        upwards += 1;
+    }
+    upwards
+}
+
+/// Counts the `../` that a relative value begins with.
+pub(crate) fn counted(buffer: &[u8], start: Start, kind: Kind) -> Start
+    requires { Starts start buffer.now }
+    ensures value { value_at result buffer.now ≡ value_at start buffer.now }
+    ensures starts { Starts result buffer.now }
+    ensures all { kind ≡ Relative → begins (codes "../") (drop result.from buffer.now) ≡ false }
+    ensures only { (kind ≡ Relative → ⊥) → result.upwards ≡ start.upwards }
+{
+    if let Kind::Relative = kind {
+        let more = count_upwards(&buffer[start.from..]);
+        start_near(buffer, start.from + 3 * more, start.upwards + more, start)
+    } else {
+        start
+    }
+}
+
+/// The place of a joined value, whose parts have a scheme or not.
+pub(crate) fn known_place(buffer: &[u8], start: Start, with_scheme: bool) -> Place
+    requires { Starts start buffer.now }
+    ensures start { result.start ≡ start }
+    ensures stands { (base own : List ℕ) → value_at start buffer.now ≡ join base own
         → with_scheme ≡ is_some (below (cut base) (cut own)).scheme → Stands result buffer.now }
 {
-    let (is_scheme, look) = look_at(buffer, from, last);
-    let kind = known_kind(&buffer[from..], is_scheme, with_scheme);
-    Place { from, kind, look }
+    let kind = if start.upwards > 0 {
+        Some(Kind::Relative)
+    } else {
+        known_kind(&buffer[start.from..], start.is_scheme, with_scheme)
+    };
+    Place { start, kind }
 }

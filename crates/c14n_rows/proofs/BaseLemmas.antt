@@ -2,8 +2,6 @@
 use Rattle.std.proofs.Common.{◌≡◌, ℕ, ◌<◌, ◌≤◌, ◌+◌, ◌-◌, ◌&&◌, Bool, true, false, not, cond, Option, Some, None, IfSome, List, [], ◌∷◌, ◌++◌, length, take, get_or, refl, ap, sym, ◌∙◌, subst, arith, inl, inr}
 use Rattle.std.specs.Prelude.{slice_get}
 use Rattle.std.specs.List.{filter}
-use Rattle.std.proofs.lemmas.Bool.{cases_eq}
-use Rattle.std.proofs.lemmas.List.{take_all}
 use Rattle.xml_doc.specs.Kinds.{is_element}
 use Rattle.xml_doc.specs.Rows.{RowOf}
 use Rattle.xml_doc.specs.Shape.{IsWellShaped}
@@ -12,11 +10,12 @@ use Rattle.c14n_text.specs.Namespaces.{Rule}
 use Rattle.c14n_text.specs.Attributes.{imports_attributes}
 use Rattle.c14n_text.specs.Bases.{bases, is_base, is_eleven, is_none, joined_base, omitted_bases, with_base, with_bases}
 use Rattle.c14n_rows.specs.Joined.{weights}
-use Rattle.c14n_rows.specs.Code.Joined.{if_base, JoinedLast}
+use Rattle.c14n_bases.specs.Joined.{JoinedValue}
+use Rattle.c14n_rows.specs.Code.Joined.{if_base, IsRun, JoinedLast}
 use Rattle.c14n_rows.specs.declared.bases.Joining.{Joining}
 use Rattle.c14n_rows.specs.Code.Stacks.{run_on, run_bases, runs_at}
 use Rattle.xml_doc.proofs.Ranges.{numbers, numbers-more, numbers-end}
-use Rattle.c14n_rows.proofs.RunLemmas.{eleven_is, run_above, run_on-top, same_run}
+use Rattle.c14n_rows.proofs.RunLemmas.{eleven_is, run_above, run_on-top, same_run, weights-append}
 
 pub with_bases-append : (rows : List RowOf) (so_far : Option (ℕ × List ℕ)) (xs ys : List ℕ) → with_bases rows so_far (xs ++ ys) ≡ with_bases rows (with_bases rows so_far xs) ys
 with_bases-append rows so_far [] ys = refl
@@ -33,12 +32,8 @@ bases-more rows i b lt = ap (filter (is_base rows)) (numbers-more i b lt) ∙ go
 pub bases-end : (rows : List RowOf) (i b : ℕ) → b ≤ i → filter (is_base rows) (numbers i b) ≡ []
 bases-end rows i b le = ap (filter (is_base rows)) (numbers-end i b le)
 
-pub weights-two : (rows : List RowOf) (xs ys : List ℕ) → weights rows (xs ++ ys) ≡ weights rows xs + weights rows ys
-weights-two rows [] ys = omega arith
-weights-two rows (x ∷ xs) ys = let ih = weights-two rows xs ys in omega arith
-
 pub weights-more : (rows : List RowOf) (i b : ℕ) → i < b → weights rows (filter (is_base rows) (numbers i b)) ≡ weights rows (if_base rows i) + weights rows (filter (is_base rows) (numbers (i + 1) b))
-weights-more rows i b lt = ap (weights rows) (bases-more rows i b lt) ∙ weights-two rows (if_base rows i) (filter (is_base rows) (numbers (i + 1) b))
+weights-more rows i b lt = ap (weights rows) (bases-more rows i b lt) ∙ weights-append rows (if_base rows i) (filter (is_base rows) (numbers (i + 1) b))
 
 pub weights-end : (rows : List RowOf) (i b : ℕ) → b ≤ i → weights rows (filter (is_base rows) (numbers i b)) ≡ 0
 weights-end rows i b le = ap (weights rows) (bases-end rows i b le)
@@ -84,53 +79,27 @@ some_is (x ∷ xs) b e = refl
 
 -- ---- the run that was joined last
 module _ (rows : List RowOf) (w : IsWellShaped rows) (set : ℕ → Bool) (p : ℕ) (there : p < length rows) where
+  -- the joined run whose nearest row is c
+  abbrev Joined : JoinedValue → ℕ → Type 0
+  Joined run c = IsRun c run (with_bases rows None (run_bases rows set (parent_of rows c)))
+
   -- where it has the same nearest row, it is the same run
-  pub joined_before : (nearest : Option ℕ) (value : List ℕ) (b : ℕ) → Some b ≡ slice_get (run_bases rows set p) 0
-      → IfSome nearest (λ c. Some (c, value) ≡ with_bases rows None (run_bases rows set (parent_of rows c))) → nearest ≡ Some b → Some (b, value) ≡ with_bases rows None (run_bases rows set p)
-  joined_before nearest value b first is same =
+  same_bases : (b : ℕ) → Some b ≡ slice_get (run_bases rows set p) 0 → with_bases rows None (run_bases rows set (parent_of rows b)) ≡ with_bases rows None (run_bases rows set p)
+  same_bases b first =
       let run = first_is (run_bases rows set p) b first in
-      let e : run_bases rows set (parent_of rows b) ≡ run_bases rows set p = same_run rows w set p p b run.0 (omega arith) there run.1 ∙ sym run.1 in
-      let f : Some (b, value) ≡ with_bases rows None (run_bases rows set (parent_of rows b)) =
-      subst (λ (o : Option ℕ). IfSome o (λ c. Some (c, value) ≡ with_bases rows None (run_bases rows set (parent_of rows c)))) same is
-      in
-      f ∙ ap (with_bases rows None) e
+      ap (with_bases rows None) (same_run rows w set p p b run.0 (omega arith) there run.1 ∙ sym run.1)
+
+  pub joined_before : (nearest : Option ℕ) (run : JoinedValue) (b : ℕ) → Some b ≡ slice_get (run_bases rows set p) 0
+      → IfSome nearest (Joined run) → nearest ≡ Some b → IsRun b run (with_bases rows None (run_bases rows set p))
+  joined_before nearest run b first is same = subst (IsRun b run) (same_bases b first) (subst (λ (o : Option ℕ). IfSome o (Joined run)) same is)
 
   -- and it stays what it is
   pub joined_after : (old new : Joining) (b : ℕ) → Some b ≡ slice_get (run_bases rows set p) 0
-      → IfSome old.nearest (λ c. Some (c, old.run.value) ≡ with_bases rows None (run_bases rows set (parent_of rows c)))
-      → JoinedLast old new b (with_bases rows None (run_bases rows set p))
-      → IfSome new.nearest (λ c. Some (c, new.run.value) ≡ with_bases rows None (run_bases rows set (parent_of rows c)))
+      → IfSome old.nearest (Joined old.run) → JoinedLast old new b (with_bases rows None (run_bases rows set p)) → IfSome new.nearest (Joined new.run)
   joined_after old new b first is (inl now) =
-      let run = first_is (run_bases rows set p) b first in
-      let e : run_bases rows set p ≡ run_bases rows set (parent_of rows b) = run.1 ∙ sym (same_run rows w set p p b run.0 (omega arith) there run.1) in
-      let f : Some (b, new.run.value) ≡ with_bases rows None (run_bases rows set (parent_of rows b)) = now.1 ∙ ap (with_bases rows None) e in
-      subst (λ (o : Option ℕ). IfSome o (λ c. Some (c, new.run.value) ≡ with_bases rows None (run_bases rows set (parent_of rows c)))) (sym now.0) f
+      subst (λ (o : Option ℕ). IfSome o (Joined new.run)) (sym now.0) (subst (IsRun b new.run) (sym (same_bases b first)) now.1)
   joined_after old new b first is (inr as_before) =
-      subst (λ (v : List ℕ). IfSome new.nearest (λ c. Some (c, v) ≡ with_bases rows None (run_bases rows set (parent_of rows c)))) (sym as_before.1)
-      (subst (λ (o : Option ℕ). IfSome o (λ c. Some (c, old.run.value) ≡ with_bases rows None (run_bases rows set (parent_of rows c)))) (sym as_before.0) is)
-
--- a run that has a row has it on top
-pub top_of_run : (rows : List RowOf) (on_runs : List ℕ) (b : ℕ) → Some b ≡ slice_get (run_on rows on_runs) 0 → (0 < length on_runs) × (run_on rows on_runs ≡ b ∷ run_on rows (take (length on_runs - 1) on_runs))
-top_of_run rows on_runs b first = elim (cases_eq (length on_runs) 0) [
-  | inl none ↦ absurd (empty on_runs (omega arith) first)
-  | inr some ↦
-      let pos : 0 < length on_runs = omega arith in
-      let t = get_or on_runs (length on_runs - 1) 0 in
-      let whole : take (length on_runs) on_runs ≡ on_runs = take_all (length on_runs) on_runs (omega arith) in
-      let e = sym (ap (run_on rows) whole) ∙ run_on-top rows on_runs (length on_runs) pos (omega arith) in
-      (pos, go (not (is_element (kind_of rows t))) t (run_on rows (take (length on_runs - 1) on_runs)) e (first ∙ ap (λ (l : List ℕ). slice_get l 0) e))
-]
-  where
-    empty : (xs : List ℕ) → length xs ≤ 0 → Some b ≡ slice_get (run_on rows xs) 0 → ⊥
-    empty [] le f = cc
-    empty (x ∷ xs) le f = absurd (omega arith)
-
-    go : (s : Bool) (t : ℕ) (more : List ℕ) → run_on rows on_runs ≡ cond s (t ∷ more) [] → Some b ≡ slice_get (cond s (t ∷ more) []) 0 → run_on rows on_runs ≡ b ∷ more
-    go true t more e f = let same : b ≡ t = cc in e ∙ ap (λ (k : ℕ). k ∷ more) (sym same)
-    go false t more e f = absurd (no f)
-      where
-        no : Some b ≡ slice_get {X = ℕ} [] 0 → ⊥
-        no f = cc
+      subst (λ (run : JoinedValue). IfSome new.nearest (Joined run)) (sym as_before.1) (subst (λ (o : Option ℕ). IfSome o (Joined old.run)) (sym as_before.0) is)
 
 -- ---- what stands as the `xml:base` of a row
 module _ (rows : List RowOf) (set : ℕ → Bool) (rule : Rule) (x : ℕ) where

@@ -15,3 +15,4 @@ pub mod RunLemmas
 pub mod StacksLemmas
 pub mod EntryLemmas
 pub mod BaseLemmas
+pub mod ValueLemmas

@@ -1,14 +1,15 @@
 -- What a walk keeps of the elements that are open. Each leaves its entries on a stack, and takes them from it where it ends
-use Rattle.std.specs.Prelude.{◌≡◌, ℕ, ◌+◌, ◌<◌, ◌≤◌, None, List, [], ◌∷◌, length, if◌then◌else◌, vec_capacity}
+use Rattle.std.specs.Prelude.{◌≡◌, ℕ, ◌+◌, ◌<◌, ◌≤◌, true, None, List, [], ◌∷◌, length, if◌then◌else◌, vec_capacity}
 use Rattle.xml_doc.specs.Kinds.{is_element}
 use Rattle.xml_doc.specs.Rows.{RowOf}
 use Rattle.xml_doc.specs.Fields.{namespace_rows, attribute_rows}
 use Rattle.c14n_text.specs.Rows.{kind_of, parent_of}
 use Rattle.c14n_text.specs.Tree.{chain_within}
-use Rattle.c14n_text.specs.Bases.{bases}
+use Rattle.c14n_text.specs.Namespaces.{Rule}
+use Rattle.c14n_text.specs.Bases.{bases, is_eleven}
 use Rattle.c14n_rows.specs.declared.imports.Ordered.{Ordered}
 use Rattle.c14n_rows.specs.declared.stacks.Stacks.{Stacks}
-use Rattle.c14n_rows.specs.Joined.{BasesFit, weights}
+use Rattle.c14n_rows.specs.Joined.{BasesFit, PreparedFit, weights}
 
 -- row x and the elements above it, the nearest first
 abbrev pub upwards : List RowOf → ℕ → List ℕ
@@ -26,23 +27,25 @@ abbrev pub total : (ℕ → ℕ) → List ℕ → ℕ
 total count [] = 0
 total count (x ∷ xs) = total count xs + count x
 
--- the stacks and buffers have room where the walk stands at row x
-pub record RoomAt (rows : List RowOf) (x : ℕ) (stacks : Stacks) : Type 0 where
+-- the stacks and buffers have room where the walk stands at row x. By Canonical XML 1.1 alone something is joined
+pub record RoomAt (rows : List RowOf) (rule : Rule) (x : ℕ) (stacks : Stacks) : Type 0 where
   pub slots : total (count_of rows) (upwards rows x) ≤ vec_capacity stacks.slots
   pub xml : total (count_of rows) (upwards rows x) ≤ vec_capacity stacks.xml
   pub runs : total (count_of rows) (upwards rows x) ≤ vec_capacity stacks.runs
   pub marks : total (count_of rows) (upwards rows x) ≤ vec_capacity stacks.marks
-  pub joining : BasesFit (total (octets_of rows) (upwards rows x)) stacks.joining
+  pub prepared : is_eleven rule ≡ true → PreparedFit (total (octets_of rows) (upwards rows x)) stacks.prepared
+  pub joining : is_eleven rule ≡ true → BasesFit (total (octets_of rows) (upwards rows x)) stacks.joining
 
 -- the same for each row of a range
-pub record RoomIn (rows : List RowOf) (first until : ℕ) (stacks : Stacks) : Type 0 where
-  pub at : (x : ℕ) → first ≤ x → x < until → RoomAt rows x stacks
+pub record RoomIn (rows : List RowOf) (rule : Rule) (first until : ℕ) (stacks : Stacks) : Type 0 where
+  pub at : (x : ℕ) → first ≤ x → x < until → RoomAt rows rule x stacks
 
 -- nothing stands on the stacks, and no run was joined
 pub record IsEmpty (stacks : Stacks) : Type 0 where
   pub slots : stacks.slots.items ≡ []
   pub xml : stacks.xml.items ≡ []
   pub runs : stacks.runs.items ≡ []
+  pub prepared : stacks.prepared.bases ≡ []
   pub nearest : stacks.joining.nearest ≡ None
 
 -- the memory in which the attributes of row x are put in order has room for its own and those of the elements above it

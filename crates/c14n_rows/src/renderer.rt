@@ -1,24 +1,25 @@
 //! A renderer: the memory of the walks over one document, taken once.
-ghost use Rattle.std.specs.Prelude.{◌≡◌, ◌<◌, ◌≤◌, ◌+◌, ◌-◌, length, IfOk, OnOk, OnErr, None};
+ghost use Rattle.std.specs.Prelude.{◌≡◌, ◌<◌, ◌≤◌, ◌+◌, ◌-◌, [], true, length, IfOk, OnOk, OnErr, None};
 ghost use Rattle.std.specs.List.{filter, range_with_len};
 ghost use Rattle.sig_base.specs.Puts.{Puts};
 ghost use Rattle.node_sets.specs.View.{in_view, rows_of};
 ghost use Rattle.c14n_text.specs.Rows.{parent_of};
-ghost use Rattle.c14n_text.specs.Bases.{is_base};
+ghost use Rattle.c14n_text.specs.Namespaces.{eleven};
+ghost use Rattle.c14n_text.specs.Bases.{is_base, is_eleven};
 ghost use Rattle.c14n_text.specs.Canon.{canon};
 ghost use Rattle.c14n_rows.specs.Rules.{rule_of};
-ghost use Rattle.c14n_rows.specs.Joined.{BasesFit, weights};
+ghost use Rattle.c14n_rows.specs.Joined.{BasesFit, PreparedFit, weights};
 ghost use Rattle.c14n_rows.specs.Code.Joined.{if_base};
-ghost use Rattle.c14n_rows.specs.Stacks.{total, upwards, IsEmpty, OrderedIn, RoomIn};
+ghost use Rattle.c14n_rows.specs.Stacks.{octets_of, total, upwards, IsEmpty, OrderedIn, RoomIn};
 ghost use Rattle.c14n_rows.specs.Code.Stacks.{counted_of, HasRoom, IsOpen, IsTaken, IsTakenFor};
 
 use crate::attributes::is_element;
-use crate::bases::{Joining, is_base};
+use crate::bases::{Joining, is_base, is_eleven};
 use crate::imports::Ordered;
 use crate::namespaces::Method;
 use crate::stacks::Stacks;
 use crate::walk::{walked_range, write_nothing, write_rows, write_walked};
-use c14n_bases::Joined;
+use c14n_bases::{Bases, Joined};
 use node_sets::SetView;
 use sig_base::{NoMemory, OctetSink, Put};
 use std::alloc::Global;
@@ -36,13 +37,14 @@ pub struct Renderer<'d> {
 impl<'d> Model for Renderer<'d> {
     ghost use Rattle.std.specs.Prelude.{List, length};
     ghost use Rattle.xml_doc.specs.Rows.{RowOf};
+    ghost use Rattle.c14n_text.specs.Namespaces.{eleven};
     ghost use Rattle.c14n_rows.specs.Stacks.{IsEmpty, OrderedIn, RoomIn};
 
     ghost Value = { List RowOf };
 
     ghost view = { λ r. r.doc.now };
 
-    ghost invariant = { λ r. IsEmpty r.stacks × RoomIn r.doc.now 1 (length r.doc.now) r.stacks × OrderedIn r.doc.now 1 (length r.doc.now) r.ordered };
+    ghost invariant = { λ r. IsEmpty r.stacks × RoomIn r.doc.now eleven 1 (length r.doc.now) r.stacks × OrderedIn r.doc.now 1 (length r.doc.now) r.ordered };
 }
 
 /// What is counted of each row.
@@ -162,6 +164,35 @@ fn greatest_sum(doc: &Doc<'_>, counted: Counted, start: u32, until: u32) -> Resu
     Ok(most)
 }
 
+/// How many octets the joining takes in walks by a method over the rows from `start` to before `until`. Canonical XML 1.1
+/// alone joins values.
+fn octets_for(
+    doc: &Doc<'_>,
+    method: Method<'_, '_>,
+    start: u32,
+    until: u32,
+) -> Result<usize, NoMemory>
+    requires behind_root { 0 < start }
+    requires ordered { start < until }
+    requires within { until ≤ length doc.now }
+    ensures { IfOk result (λ n. is_eleven (rule_of method.entry) ≡ true → HasRoom doc.now (octets_of doc.now) start until n) }
+{
+    if is_eleven(method) {
+        greatest_sum(doc, Counted::Values, start, until)
+    } else {
+        Ok(0)
+    }
+}
+
+/// Room for bases of this many octets, of which each takes four at least.
+fn room_for_bases(alloc: Global, octets: usize) -> Result<Bases, NoMemory>
+    ensures fit { IfOk result (λ b. PreparedFit octets b) }
+    ensures none { IfOk result (λ b. b.bases ≡ []) }
+{
+    let count = octets.div_ceil(4);
+    Bases::with_room(alloc, count, octets)
+}
+
 /// Memory in which values of `xml:base` are joined, where that takes this many octets.
 fn buffers(alloc: Global, room: usize) -> Result<Joining, NoMemory>
     ensures fit { IfOk result (λ j. BasesFit room j) }
@@ -186,12 +217,14 @@ fn take_stacks(alloc: Global, entries: usize, octets: usize) -> Result<Stacks, N
     let slots = Vec::with_capacity(alloc, entries)?;
     let xml = Vec::with_capacity(alloc, entries)?;
     let runs = Vec::with_capacity(alloc, entries)?;
+    let prepared = room_for_bases(alloc, octets)?;
     let marks = Vec::with_capacity(alloc, entries)?;
     let joining = buffers(alloc, octets)?;
     Ok(Stacks {
         slots,
         xml,
         runs,
+        prepared,
         marks,
         joining,
     })
@@ -224,29 +257,35 @@ fn take_memory(alloc: Global, entries: usize, octets: usize) -> Result<Memory, N
     Ok(Memory { stacks, ordered })
 }
 
-/// The memory for walks over the rows from `start` to before `until` and those above them.
-fn memory_for(alloc: Global, doc: &Doc<'_>, start: u32, until: u32) -> Result<Memory, NoMemory>
+/// The memory for walks by a method over the rows from `start` to before `until` and those above them.
+fn memory_for(
+    alloc: Global,
+    doc: &Doc<'_>,
+    method: Method<'_, '_>,
+    start: u32,
+    until: u32,
+) -> Result<Memory, NoMemory>
     requires behind_root { 0 < start }
     requires ordered { start < until }
     requires within { until ≤ length doc.now }
     ensures empty { IfOk result (λ m. IsEmpty m.stacks) }
-    ensures room { IfOk result (λ m. RoomIn doc.now start until m.stacks) }
+    ensures room { IfOk result (λ m. RoomIn doc.now (rule_of method.entry) start until m.stacks) }
     ensures ordered_room { IfOk result (λ m. OrderedIn doc.now start until m.ordered) }
 {
     let entries = greatest_sum(doc, Counted::Entries, start, until)?;
-    let octets = greatest_sum(doc, Counted::Values, start, until)?;
+    let octets = octets_for(doc, method, start, until)?;
     take_memory(alloc, entries, octets)
 }
 
-/// The memory for walks over all rows.
+/// The memory for walks over all rows by any method, of which Canonical XML 1.1 takes most.
 fn memory_for_all(alloc: Global, doc: &Doc<'_>) -> Result<Memory, NoMemory>
     ensures empty { IfOk result (λ m. IsEmpty m.stacks) }
-    ensures room { IfOk result (λ m. RoomIn doc.now 1 (length doc.now) m.stacks) }
+    ensures room { IfOk result (λ m. RoomIn doc.now eleven 1 (length doc.now) m.stacks) }
     ensures ordered_room { IfOk result (λ m. OrderedIn doc.now 1 (length doc.now) m.ordered) }
 {
     let rows = doc.rows();
     if rows > 1 {
-        memory_for(alloc, doc, 1, rows)
+        memory_for(alloc, doc, Method::Eleven, 1, rows)
     } else {
         take_memory(alloc, 0, 0)
     }
@@ -269,7 +308,7 @@ pub fn write_once<S: OctetSink>(
     match walked_range(set) {
         None => Ok(write_nothing(doc, set, method, comments, sink)),
         Some(range) => {
-            let mut memory = memory_for(alloc, doc, range.start, range.until)?;
+            let mut memory = memory_for(alloc, doc, method, range.start, range.until)?;
             Ok(write_walked(
                 doc,
                 set,
@@ -325,6 +364,7 @@ impl<'d> Renderer<'d> {
         self.stacks.slots.clear();
         self.stacks.xml.clear();
         self.stacks.runs.clear();
+        self.stacks.prepared.truncate(0);
         self.stacks.joining.nearest = None;
         put
     }

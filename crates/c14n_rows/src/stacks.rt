@@ -12,17 +12,19 @@ ghost use Rattle.c14n_text.specs.Rows.{parent_of, kind_of};
 ghost use Rattle.c14n_text.specs.Code.Rows.{last_of};
 ghost use Rattle.c14n_text.specs.Namespaces.{eleven};
 ghost use Rattle.c14n_text.specs.Attributes.{is_xml};
-ghost use Rattle.c14n_text.specs.Bases.{is_base};
+ghost use Rattle.c14n_text.specs.Bases.{is_base, is_eleven};
 ghost use Rattle.c14n_rows.specs.Rules.{rule_of};
-ghost use Rattle.c14n_rows.specs.Stacks.{count_of, total, upwards, IsEmpty, RoomAt};
+ghost use Rattle.c14n_rows.specs.Joined.{PreparedFit};
+ghost use Rattle.c14n_rows.specs.Stacks.{count_of, octets_of, total, upwards, IsEmpty, RoomAt};
 ghost use Rattle.c14n_rows.specs.Code.Utilized.{AreMarked};
-ghost use Rattle.c14n_rows.specs.Code.Stacks.{frame_start, is_named, rendered, run_entries, runs_at, slots_at, xml_at, FrameAt, Keeps, SlotFits, StacksAt};
+ghost use Rattle.c14n_rows.specs.Code.Stacks.{frame_start, is_named, rendered, runs_at, slots_at, values_on, xml_at, FrameAt, Keeps, KeepsRoom, SlotFits, StacksAt};
 
 use crate::attributes::{is_element, is_xml};
 use crate::bases::{Joining, is_base, is_eleven};
 use crate::names::row_named;
 use crate::namespaces::{Method, is_default, renders, renders_default};
 use crate::utilized::mark_utilized;
+use c14n_bases::Bases;
 use node_sets::SetView;
 use xml_doc::{Doc, OwnRows};
 
@@ -47,6 +49,8 @@ pub(crate) struct Stacks {
     pub slots: Vec<Slot>,
     pub xml: Vec<u32>,
     pub runs: Vec<u32>,
+    /// The values of those rows of `runs` that are no elements.
+    pub prepared: Bases,
     /// Of the namespace rows of the element that begins: whether an attribute of it utilizes the prefix.
     pub marks: Vec<bool>,
     pub joining: Joining,
@@ -356,17 +360,21 @@ fn leave_xml(doc: &Doc<'_>, xml: &mut Vec<u32>, x: u32)
 }
 
 /// Puts on the stack what an element leaves for the runs: itself where it is in the set, and else its `xml:base` rows, the
-/// last one first.
-fn enter_runs(doc: &Doc<'_>, set: SetView<'_>, runs: &mut Vec<u32>, x: u32)
+/// last one first. The values of these are prepared.
+fn enter_runs(doc: &Doc<'_>, set: SetView<'_>, runs: &mut Vec<u32>, prepared: &mut Bases, x: u32)
     requires below { 0 < x }
     requires here { x < length doc.now }
     requires element { is_element (kind_of doc.now x) ≡ true }
     requires runs_are { runs.old.items ≡ runs_at doc.now (in_view set) eleven (parent_of doc.now x) }
     requires runs_fit { All (λ b. b < length doc.now) runs.old.items }
+    requires prepared_are { prepared.old.bases ≡ values_on doc.now runs.old.items }
     requires room { total (count_of doc.now) (upwards doc.now x) ≤ vec_capacity runs.old }
+    requires octets { PreparedFit (total (octets_of doc.now) (upwards doc.now x)) prepared.old }
     ensures runs_are { runs.new.items ≡ runs_at doc.now (in_view set.entry) eleven x }
     ensures runs_fit { All (λ b. b < length doc.now) runs.new.items }
+    ensures prepared_are { prepared.new.bases ≡ values_on doc.now runs.new.items }
     ensures capacity { vec_capacity runs.old ≤ vec_capacity runs.new }
+    ensures prepared_room { KeepsRoom prepared.old prepared.new }
 {
     let _rows = doc.rows();
     if set.contains(x) {
@@ -379,6 +387,7 @@ fn enter_runs(doc: &Doc<'_>, set: SetView<'_>, runs: &mut Vec<u32>, x: u32)
         a -= 1;
         if is_base(doc, a) {
             push_row(runs, a);
+            prepared.push(doc.value(a).as_bytes());
         }
     }
 }
@@ -397,68 +406,87 @@ fn count_bases(doc: &Doc<'_>, from: u32, until: u32) -> usize
     count
 }
 
-/// How many entries an element left for the runs.
-fn count_run(doc: &Doc<'_>, set: SetView<'_>, x: u32) -> usize
-    requires here { x < length doc.now }
-    requires element { is_element (kind_of doc.now x) ≡ true }
-    ensures { result ≡ length (run_entries doc.now (in_view set.entry) eleven x) }
-{
-    if set.contains(x) {
-        1
-    } else {
-        let own = doc.own_rows(x);
-        count_bases(doc, own.first_attribute, own.first_child)
-    }
-}
-
-/// Takes them from the stack.
-fn leave_runs(doc: &Doc<'_>, set: SetView<'_>, runs: &mut Vec<u32>, x: u32)
+/// Takes what an element left for the runs from the stack.
+fn leave_runs(doc: &Doc<'_>, set: SetView<'_>, runs: &mut Vec<u32>, prepared: &mut Bases, x: u32)
     requires below { 0 < x }
     requires here { x < length doc.now }
     requires element { is_element (kind_of doc.now x) ≡ true }
     requires runs_are { runs.old.items ≡ runs_at doc.now (in_view set) eleven x }
     requires runs_fit { All (λ b. b < length doc.now) runs.old.items }
+    requires prepared_are { prepared.old.bases ≡ values_on doc.now runs.old.items }
     ensures runs_are { runs.new.items ≡ runs_at doc.now (in_view set.entry) eleven (parent_of doc.now x) }
     ensures runs_fit { All (λ b. b < length doc.now) runs.new.items }
+    ensures prepared_are { prepared.new.bases ≡ values_on doc.now runs.new.items }
     ensures capacity { vec_capacity runs.new ≡ vec_capacity runs.old }
+    ensures prepared_room { KeepsRoom prepared.old prepared.new }
 {
     let _rows = doc.rows();
-    let kept = runs.len() - count_run(doc, set, x);
+    if set.contains(x) {
+        let kept = runs.len() - 1;
+        runs.truncate(kept);
+        return;
+    }
+    let own = doc.own_rows(x);
+    let count = count_bases(doc, own.first_attribute, own.first_child);
+    let kept = runs.len() - count;
+    let kept_bases = prepared.len() - count;
     runs.truncate(kept);
+    prepared.truncate(kept_bases);
 }
 
 /// Puts what an element leaves for the runs on the stack, where the rule has runs.
-fn enter_run(doc: &Doc<'_>, set: SetView<'_>, method: Method<'_, '_>, runs: &mut Vec<u32>, x: u32)
+fn enter_run(
+    doc: &Doc<'_>,
+    set: SetView<'_>,
+    method: Method<'_, '_>,
+    runs: &mut Vec<u32>,
+    prepared: &mut Bases,
+    x: u32,
+)
     requires below { 0 < x }
     requires here { x < length doc.now }
     requires element { is_element (kind_of doc.now x) ≡ true }
     requires runs_are { runs.old.items ≡ runs_at doc.now (in_view set) (rule_of method) (parent_of doc.now x) }
     requires runs_fit { All (λ b. b < length doc.now) runs.old.items }
+    requires prepared_are { prepared.old.bases ≡ values_on doc.now runs.old.items }
     requires room { total (count_of doc.now) (upwards doc.now x) ≤ vec_capacity runs.old }
+    requires octets { is_eleven (rule_of method) ≡ true → PreparedFit (total (octets_of doc.now) (upwards doc.now x)) prepared.old }
     ensures runs_are { runs.new.items ≡ runs_at doc.now (in_view set.entry) (rule_of method.entry) x }
     ensures runs_fit { All (λ b. b < length doc.now) runs.new.items }
+    ensures prepared_are { prepared.new.bases ≡ values_on doc.now runs.new.items }
     ensures capacity { vec_capacity runs.old ≤ vec_capacity runs.new }
+    ensures prepared_room { KeepsRoom prepared.old prepared.new }
 {
     let _rows = doc.rows();
     if is_eleven(method) {
-        enter_runs(doc, set, runs, x);
+        enter_runs(doc, set, runs, prepared, x);
     }
 }
 
 /// Takes it from the stack.
-fn leave_run(doc: &Doc<'_>, set: SetView<'_>, method: Method<'_, '_>, runs: &mut Vec<u32>, x: u32)
+fn leave_run(
+    doc: &Doc<'_>,
+    set: SetView<'_>,
+    method: Method<'_, '_>,
+    runs: &mut Vec<u32>,
+    prepared: &mut Bases,
+    x: u32,
+)
     requires below { 0 < x }
     requires here { x < length doc.now }
     requires element { is_element (kind_of doc.now x) ≡ true }
     requires runs_are { runs.old.items ≡ runs_at doc.now (in_view set) (rule_of method) x }
     requires runs_fit { All (λ b. b < length doc.now) runs.old.items }
+    requires prepared_are { prepared.old.bases ≡ values_on doc.now runs.old.items }
     ensures runs_are { runs.new.items ≡ runs_at doc.now (in_view set.entry) (rule_of method.entry) (parent_of doc.now x) }
     ensures runs_fit { All (λ b. b < length doc.now) runs.new.items }
+    ensures prepared_are { prepared.new.bases ≡ values_on doc.now runs.new.items }
     ensures capacity { vec_capacity runs.new ≡ vec_capacity runs.old }
+    ensures prepared_room { KeepsRoom prepared.old prepared.new }
 {
     let _rows = doc.rows();
     if is_eleven(method) {
-        leave_runs(doc, set, runs, x);
+        leave_runs(doc, set, runs, prepared, x);
     }
 }
 
@@ -472,7 +500,7 @@ pub(crate) fn mark_prefixes(
 )
     requires here { x < length doc.now }
     requires stacks { StacksAt doc.now (in_view set) (rule_of method) (parent_of doc.now x) stacks.old }
-    requires room { RoomAt doc.now x stacks.old }
+    requires room { RoomAt doc.now (rule_of method) x stacks.old }
     ensures stacks { StacksAt doc.now (in_view set.entry) (rule_of method.entry) (parent_of doc.now x) stacks.new }
     ensures marked { AreMarked doc.now (in_view set.entry) (rule_of method.entry) x stacks.new.marks.items }
     ensures joining { stacks.new.joining ≡ stacks.old.joining }
@@ -492,7 +520,7 @@ pub(crate) fn enter(
     requires below { 0 < x }
     requires here { x < length doc.now }
     requires stacks { StacksAt doc.now (in_view set) (rule_of method) (parent_of doc.now x) stacks.old }
-    requires room { RoomAt doc.now x stacks.old }
+    requires room { RoomAt doc.now (rule_of method) x stacks.old }
     requires marked { AreMarked doc.now (in_view set) (rule_of method) x stacks.old.marks.items }
     ensures stacks { StacksAt doc.now (in_view set.entry) (rule_of method.entry) x stacks.new }
     ensures kept { Keeps stacks.old stacks.new }
@@ -501,7 +529,7 @@ pub(crate) fn enter(
     if is_element(doc.kind(x)) {
         enter_slots(doc, set, method, &stacks.marks, &mut stacks.slots, x);
         enter_xml(doc, &mut stacks.xml, x);
-        enter_run(doc, set, method, &mut stacks.runs, x);
+        enter_run(doc, set, method, &mut stacks.runs, &mut stacks.prepared, x);
     }
 }
 
@@ -523,7 +551,7 @@ pub(crate) fn leave(
     if is_element(doc.kind(x)) {
         leave_slots(doc, set, method, &mut stacks.slots, x);
         leave_xml(doc, &mut stacks.xml, x);
-        leave_run(doc, set, method, &mut stacks.runs, x);
+        leave_run(doc, set, method, &mut stacks.runs, &mut stacks.prepared, x);
     }
 }
 
@@ -557,7 +585,7 @@ pub(crate) fn enter_all(
 )
     requires here { x < length doc.now }
     requires empty { IsEmpty stacks.old }
-    requires room { RoomAt doc.now x stacks.old }
+    requires room { RoomAt doc.now (rule_of method) x stacks.old }
     ensures stacks { StacksAt doc.now (in_view set.entry) (rule_of method.entry) x stacks.new }
     ensures kept { Keeps stacks.old stacks.new }
 {

@@ -83,7 +83,7 @@ fn open_row<S: OctetSink>(
     requires here { x < length doc.now }
     requires element { element ≡ document_element doc.now }
     requires stacks { StacksAt doc.now (in_view set) (rule_of method) (parent_of doc.now x) stacks.old }
-    requires room { RoomAt doc.now x stacks.old }
+    requires room { RoomAt doc.now (rule_of method) x stacks.old }
     requires ordered_room { OrderedAt doc.now x ordered.old }
     ensures puts { Puts S.stands_for S.refusals S.makes sink.old sink.new
         (opening doc.now (in_view set.entry) (rule_of method.entry) comments x) result }
@@ -141,7 +141,7 @@ fn write_range<S: OctetSink>(
     sink: &mut S,
 ) -> Put
     requires stacks { StacksAt doc.now (in_view set) (rule_of method) (parent_of doc.now start) stacks.old }
-    requires room { RoomIn doc.now start until stacks.old }
+    requires room { RoomIn doc.now (rule_of method) start until stacks.old }
     requires ordered_room { OrderedIn doc.now start until ordered.old }
     requires behind_root { 0 < start }
     requires ordered { start < until }
@@ -217,7 +217,7 @@ pub(crate) fn write_walked<S: OctetSink>(
 ) -> Put
     requires walked { IsWalked doc.now (in_view set) range.start range.until }
     requires empty { IsEmpty stacks.old }
-    requires room { RoomIn doc.now range.start range.until stacks.old }
+    requires room { RoomIn doc.now (rule_of method) range.start range.until stacks.old }
     requires ordered_room { OrderedIn doc.now range.start range.until ordered.old }
     ensures puts { Puts S.stands_for S.refusals S.makes sink.old sink.new
         (canon (rule_of method.entry) comments doc.now (in_view set.entry)) result }
@@ -265,7 +265,7 @@ pub(crate) fn write_rows<S: OctetSink>(
     sink: &mut S,
 ) -> Put
     requires empty { IsEmpty stacks.old }
-    requires room { RoomIn (rows_of set) 1 (length (rows_of set)) stacks.old }
+    requires room { RoomIn (rows_of set) (rule_of method) 1 (length (rows_of set)) stacks.old }
     requires ordered_room { OrderedIn (rows_of set) 1 (length (rows_of set)) ordered.old }
     ensures puts { Puts S.stands_for S.refusals S.makes sink.old sink.new
         (canon (rule_of method.entry) comments (rows_of set.entry) (in_view set.entry)) result }

@@ -1,13 +1,12 @@
 -- Values that are joined already, and what they begin with.
 use Rattle.std.specs.Prelude.{◌≡◌, ℕ, Option, Some, None, List, is_some, if◌then◌else◌}
-use Rattle.c14n_bases.specs.Join.{Parts, is_empty, is_absolute, cut, clean, cleaned_value}
+use Rattle.c14n_bases.specs.Join.{Parts, is_empty, is_absolute, cut, cleaned_value}
 use Rattle.c14n_bases.specs.declared.kind.Kind.{Kind}
 use Rattle.c14n_bases.specs.declared.kind.Kind.TheVariants.{Scheme, Authority, Absolute, Empty, Relative}
 
 -- put together again from its parts, and with its path cleaned, the value stays as it is
-pub record IsClean (value : List ℕ) : Type 0 where
-  pub whole : cleaned_value (cut value) ≡ value
-  pub path : clean (cut value).path ≡ (cut value).path
+abbrev pub IsClean : List ℕ → Type 0
+IsClean value = cleaned_value (cut value) ≡ value
 
 -- what the first of its parts is
 abbrev pub kind_of : Parts → Kind

@@ -1,5 +1,6 @@
-use Rattle.std.specs.Prelude.{◌≡◌, ◌<◌, ◌≤◌, ℕ, List, [], ◌∷◌, length, vec_capacity, Option, Some, None, option_map, IfSome, ◌⊎◌, if◌then◌else◌}
+use Rattle.std.specs.Prelude.{⊤, ◌≡◌, ◌<◌, ◌≤◌, ℕ, List, [], ◌∷◌, length, vec_capacity, true, Option, Some, None, option_map, IfSome, ◌⊎◌, if◌then◌else◌}
 use Rattle.xml_doc.specs.Rows.{RowOf}
+use Rattle.c14n_bases.specs.Joined.{JoinedValue}
 use Rattle.c14n_text.specs.Bases.{is_base}
 use Rattle.c14n_rows.specs.declared.bases.Base.{Base}
 use Rattle.c14n_rows.specs.declared.bases.Joining.{Joining}
@@ -28,6 +29,12 @@ FoundThere rows Nothing = Unit {0}
 FoundThere rows (Run place) = place < length rows
 FoundThere rows (Own place) = place < length rows
 
+-- its octets stand in one piece
+abbrev pub IsSettled : Found → Joining → Type 0
+IsSettled Nothing joining = ⊤
+IsSettled (Run place) joining = joining.run.settled ≡ true
+IsSettled (Own place) joining = joining.own.settled ≡ true
+
 -- a row where it is an `xml:base`
 abbrev pub if_base : List RowOf → ℕ → List ℕ
 if_base rows a = if is_base rows a then a ∷ [] else []
@@ -43,7 +50,11 @@ pub record KeepsBases (old new : Joining) : Type 0 where
   pub own : old.own.room ≤ new.own.room
   pub spare : vec_capacity old.spare ≤ vec_capacity new.spare
 
+-- a run whose nearest row is b was joined to this value, which stands in one piece
+pub record IsRun (b : ℕ) (run : JoinedValue) (joined : Option (ℕ × List ℕ)) : Type 0 where
+  pub is : Some (b, run.value) ≡ joined
+  pub settled : run.settled ≡ true
+
 -- the run that was joined last is the one whose nearest row is b, with this value, or the one from before
 abbrev pub JoinedLast : (old new : Joining) → ℕ → Option (ℕ × List ℕ) → Type 0
-JoinedLast old new b value =
-    ((new.nearest ≡ Some b) × (Some (b, new.run.value) ≡ value)) ⊎ ((new.nearest ≡ old.nearest) × (new.run.value ≡ old.run.value))
+JoinedLast old new b joined = ((new.nearest ≡ Some b) × IsRun b new.run joined) ⊎ ((new.nearest ≡ old.nearest) × (new.run ≡ old.run))

@@ -1,5 +1,5 @@
 use Rattle.std.specs.Prelude.{⊤, ◌≡◌, ℕ, ◌+◌, ◌<◌, ◌≤◌, ◌==◌, Bool, not, ◌&&◌, Option, Some, None, IfSome, List, [], ◌∷◌, ◌++◌, length, map, reverse, if◌then◌else◌, vec_capacity}
-use Rattle.std.specs.List.{All, find, flat_map, take_while}
+use Rattle.std.specs.List.{All, filter, find, flat_map, take_while}
 use Rattle.std.specs.Str.{bytes_eq}
 use Rattle.sig_base.specs.declared.sink.Put.{Put}
 use Rattle.sig_base.specs.declared.sink.Put.TheVariants.{Done, Refused}
@@ -11,6 +11,7 @@ use Rattle.c14n_text.specs.Rows.{kind_of, parent_of}
 use Rattle.c14n_text.specs.Namespaces.{Rule, renders}
 use Rattle.c14n_text.specs.Attributes.{xml_attributes}
 use Rattle.c14n_text.specs.Code.Quiet.{IsQuiet}
+use Rattle.c14n_bases.specs.Joined.{PreparedBases}
 use Rattle.c14n_text.specs.Bases.{is_eleven, bases, with_bases}
 use Rattle.c14n_rows.specs.declared.imports.Ordered.{Ordered}
 use Rattle.c14n_rows.specs.declared.stacks.Frame.{Frame}
@@ -18,8 +19,8 @@ use Rattle.c14n_rows.specs.declared.stacks.Slot.{Slot}
 use Rattle.c14n_rows.specs.declared.stacks.Stacks.{Stacks}
 use Rattle.c14n_rows.specs.declared.renderer.Counted.{Counted}
 use Rattle.c14n_rows.specs.declared.renderer.Counted.TheVariants.{Entries, Values}
-use Rattle.c14n_rows.specs.Joined.{BasesFit}
-use Rattle.c14n_rows.specs.Code.Joined.{KeepsBases}
+use Rattle.c14n_rows.specs.Joined.{BasesFit, PreparedFit}
+use Rattle.c14n_rows.specs.Code.Joined.{IsRun, KeepsBases}
 use Rattle.c14n_rows.specs.Stacks.{upwards, count_of, octets_of, total}
 
 -- namespace row z is of this prefix
@@ -77,6 +78,10 @@ runs_at rows set rule x = stacked (run_entries rows set rule) (upwards rows x)
 abbrev pub run_on : List RowOf → List ℕ → List ℕ
 run_on rows on_runs = take_while (λ b. not (is_element (kind_of rows b))) (reverse on_runs)
 
+-- the values of its `xml:base` rows, which are those that are no elements: the bases that are prepared
+abbrev pub values_on : List RowOf → List ℕ → List (List ℕ)
+values_on rows on_runs = map (λ b. (row_at rows b).value) (filter (λ b. not (is_element (kind_of rows b))) on_runs)
+
 -- those of the unbroken run of elements outside the set from row p upwards, the nearest first
 abbrev pub run_bases : List RowOf → (ℕ → Bool) → ℕ → List ℕ
 run_bases rows set p = flat_map (bases rows) (take_while (λ e. not (set e)) (upwards rows p))
@@ -100,7 +105,7 @@ frame_start rows set rule x = if x == 0 then 0 else length (slots_at rows set ru
 -- the run that was joined last is that of the element whose row is kept
 abbrev pub IsJoined : List RowOf → (ℕ → Bool) → Stacks → Type 0
 IsJoined rows set stacks = IfSome stacks.joining.nearest
-    (λ b. Some (b, stacks.joining.run.value) ≡ with_bases rows None (run_bases rows set (parent_of rows b)))
+    (λ b. IsRun b stacks.joining.run (with_bases rows None (run_bases rows set (parent_of rows b))))
 
 pub record StacksAt (rows : List RowOf) (set : ℕ → Bool) (rule : Rule) (x : ℕ) (stacks : Stacks) : Type 0 where
   pub slots_are : stacks.slots.items ≡ slots_at rows set rule x
@@ -109,6 +114,7 @@ pub record StacksAt (rows : List RowOf) (set : ℕ → Bool) (rule : Rule) (x : 
   pub xml_fit : All (λ a. a < length rows) stacks.xml.items
   pub runs_are : stacks.runs.items ≡ runs_at rows set rule x
   pub runs_fit : All (λ b. b < length rows) stacks.runs.items
+  pub prepared_are : stacks.prepared.bases ≡ values_on rows stacks.runs.items
   pub is_joined : IsJoined rows set stacks
 
 abbrev pub counted_of : Counted → List RowOf → ℕ → ℕ
@@ -131,6 +137,7 @@ pub record IsTaken (entries values : ℕ) (stacks : Stacks) : Type 0 where
   pub slots : entries ≤ vec_capacity stacks.slots
   pub xml : entries ≤ vec_capacity stacks.xml
   pub runs : entries ≤ vec_capacity stacks.runs
+  pub prepared : PreparedFit values stacks.prepared
   pub marks : entries ≤ vec_capacity stacks.marks
   pub joining : BasesFit values stacks.joining
 
@@ -139,10 +146,15 @@ pub record IsTakenFor (entries : ℕ) (ordered : Ordered) : Type 0 where
   pub spare : entries ≤ vec_capacity ordered.spare
 
 -- no room was lost
+pub record KeepsRoom (old new : PreparedBases) : Type 0 where
+  pub count : old.count ≤ new.count
+  pub room : old.room ≤ new.room
+
 pub record Keeps (old new : Stacks) : Type 0 where
   pub slots : vec_capacity old.slots ≤ vec_capacity new.slots
   pub xml : vec_capacity old.xml ≤ vec_capacity new.xml
   pub runs : vec_capacity old.runs ≤ vec_capacity new.runs
+  pub prepared : KeepsRoom old.prepared new.prepared
   pub marks : vec_capacity old.marks ≤ vec_capacity new.marks
   pub joining : KeepsBases old.joining new.joining
 

@@ -1,5 +1,5 @@
 use Rattle.std.proofs.Common.{ℕ, Option, length, ap, sym, ◌∙◌, arith}
-use Rattle.c14n_bases.proofs.LengthLemmas.{join-length}
+use Rattle.c14n_bases.proofs.LengthLemmas.{join_length}
 use Rattle.c14n_text.specs.Bases.{with_bases}
 use Rattle.c14n_rows.specs.Joined.{weights}
 use Rattle.c14n_rows.specs.Code.Joined.{with_value, filled}
@@ -17,5 +17,5 @@ returns-in-Some-clause-few c =
     let f = ap (λ (o : Option ℕ). filled o c.args.own.now.value) c.in-Some.is in
     let v = ap (length {A = ℕ}) (c.as_bytes-value.ensures.value ∙ c.value.ensures) in
     let n = ap (length {A = ℕ}) c.join_below.ensures.value in
-    let few = join-length c.as_bytes-value.result.now c.args.own.now.value in
+    let few = join_length c.as_bytes-value.result.now c.args.own.now.value in
     omega arith

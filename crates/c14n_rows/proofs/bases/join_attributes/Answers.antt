@@ -25,6 +25,7 @@ loop-a-preserved c =
     let few = c.loop-a.invariant.few in let one = c.join_attribute-place.ensures.few in
     record {
       there = c.join_attribute-place.ensures.there;
+      settled = c.join_attribute-place.ensures.settled;
       rest = ap (λ o. with_bases rows o left) c.join_attribute-place.ensures.value
           ∙ sym (with_bases-append rows (with_value c.loop-a.place c.loop-a.own.value) (if_base rows a) left)
           ∙ ap (with_bases rows (with_value c.loop-a.place c.loop-a.own.value)) (sym (bases-more rows a c.args.until c.loop-a-test.true)) ∙ c.loop-a.invariant.rest;

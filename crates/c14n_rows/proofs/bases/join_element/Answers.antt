@@ -1,4 +1,4 @@
-use Rattle.std.proofs.Common.{ℕ, List, Option, None, refl, ap, sym, ◌∙◌, arith, inl, inr}
+use Rattle.std.proofs.Common.{ℕ, List, Option, Some, None, refl, ap, sym, ◌∙◌, arith, inl, inr}
 use Rattle.std.specs.List.{filter}
 use Rattle.c14n_text.specs.Bases.{bases, is_base, with_bases}
 use Rattle.c14n_rows.specs.Joined.{weights}
@@ -48,7 +48,7 @@ returns-in-None-clause-value c =
     let own =
     ap (λ (o : Option ℕ). with_value o c.join_attributes-own.new.own.value) (sym c.in-None.is) ∙ c.join_attributes-own.ensures.value
     ∙ ap (λ (ys : List ℕ). with_bases rows None (filter (is_base rows) ys)) (sym c.own_rows-rows.ensures.attributes) in
-    c.join_nearest.ensures.joined ∙ ap (λ o. with_bases rows o run) own ∙ sym (with_bases-append rows None (bases rows c.args.x) run)
+    c.join_nearest.ensures.joined.is ∙ ap (λ o. with_bases rows o run) own ∙ sym (with_bases-append rows None (bases rows c.args.x) run)
 
 pub returns-in-None-clause-joined : goal.returns-in-None-clause-joined
 returns-in-None-clause-joined c = inl (c.join_nearest.ensures.nearest, c.join_nearest.ensures.joined)
@@ -59,7 +59,7 @@ returns-in-Some-clause-value c =
     let own =
     ap (λ (o : Option ℕ). with_value o c.join_attributes-own.new.own.value) (sym c.in-Some.is) ∙ c.join_attributes-own.ensures.value
     ∙ ap (λ (ys : List ℕ). with_bases rows None (filter (is_base rows) ys)) (sym c.own_rows-rows.ensures.attributes) in
-    c.join_run.ensures.joined c.in-Some.place ∙ ap (λ o. with_bases rows o run) own ∙ sym (with_bases-append rows None (bases rows c.args.x) run)
+    ap (λ (v : List ℕ). Some (c.in-Some.place, v)) c.settle.ensures.value ∙ c.join_run.ensures.joined c.in-Some.place ∙ ap (λ o. with_bases rows o run) own ∙ sym (with_bases-append rows None (bases rows c.args.x) run)
 
 pub returns-in-Some-clause-joined : goal.returns-in-Some-clause-joined
 returns-in-Some-clause-joined c = inr (refl, refl)

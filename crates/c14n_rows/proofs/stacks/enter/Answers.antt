@@ -13,6 +13,7 @@ returns-then-is_element-clause-stacks c = record {
   xml_fit = c.enter_xml.ensures.xml_fit;
   runs_are = c.enter_run.ensures.runs_are;
   runs_fit = c.enter_run.ensures.runs_fit;
+  prepared_are = c.enter_run.ensures.prepared_are;
   is_joined = c.requires.stacks.is_joined;
 }
 
@@ -21,6 +22,7 @@ returns-then-is_element-clause-kept c = record {
   slots = c.enter_slots.ensures.capacity;
   xml = c.enter_xml.ensures.capacity;
   runs = c.enter_run.ensures.capacity;
+  prepared = c.enter_run.ensures.prepared_room;
   marks = omega arith;
   joining = bases-all c.args.stacks.now.joining;
 }

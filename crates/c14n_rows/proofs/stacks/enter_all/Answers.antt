@@ -20,13 +20,13 @@ mark_prefixes-requires-clause-stacks c = rw c.child_towards-next.ensures.parent 
 
 pub mark_prefixes-requires-clause-room : goal.mark_prefixes-requires-clause-room
 mark_prefixes-requires-clause-room c =
-    room-kept c.args.doc.now c.child_towards-next.result c.args.stacks.now c.loop-top.stacks c.loop-top.invariant.kept
-    (room-above c.args.doc.now c.rows-rows.ensures.shaped c.child_towards-next.result c.args.x c.args.stacks.now c.child_towards-next.ensures.before c.child_towards-next.ensures.within c.requires.here c.requires.room)
+    room-kept c.args.doc.now (rule_of c.args.method) c.child_towards-next.result c.args.stacks.now c.loop-top.stacks c.loop-top.invariant.kept
+    (room-above c.args.doc.now (rule_of c.args.method) c.rows-rows.ensures.shaped c.child_towards-next.result c.args.x c.args.stacks.now c.child_towards-next.ensures.before c.child_towards-next.ensures.within c.requires.here c.requires.room)
 
 pub enter-requires-clause-room : goal.enter-requires-clause-room
 enter-requires-clause-room c =
-    room-kept c.args.doc.now c.child_towards-next.result c.args.stacks.now _ (keeps-then c.args.stacks.now c.loop-top.stacks _ c.loop-top.invariant.kept c.mark_prefixes.ensures.kept)
-    (room-above c.args.doc.now c.rows-rows.ensures.shaped c.child_towards-next.result c.args.x c.args.stacks.now c.child_towards-next.ensures.before c.child_towards-next.ensures.within c.requires.here c.requires.room)
+    room-kept c.args.doc.now (rule_of c.args.method) c.child_towards-next.result c.args.stacks.now _ (keeps-then c.args.stacks.now c.loop-top.stacks _ c.loop-top.invariant.kept c.mark_prefixes.ensures.kept)
+    (room-above c.args.doc.now (rule_of c.args.method) c.rows-rows.ensures.shaped c.child_towards-next.result c.args.x c.args.stacks.now c.child_towards-next.ensures.before c.child_towards-next.ensures.within c.requires.here c.requires.room)
 
 pub loop-top-preserved : goal.loop-top-preserved
 loop-top-preserved c = record {

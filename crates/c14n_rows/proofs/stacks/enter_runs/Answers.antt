@@ -5,9 +5,10 @@ use Rattle.node_sets.specs.View.{in_view}
 use Rattle.c14n_text.specs.Namespaces.{eleven}
 use Rattle.c14n_text.specs.Rows.{parent_of}
 use Rattle.c14n_text.specs.Bases.{is_base}
-use Rattle.c14n_rows.specs.Code.Stacks.{runs_at, run_entries}
+use Rattle.c14n_rows.specs.Code.Stacks.{runs_at, run_entries, values_on}
 use Rattle.xml_doc.proofs.Ranges.{numbers}
-use Rattle.c14n_rows.proofs.RunLemmas.{runs_at-more, entries_in, entries_out, runs_room}
+use Rattle.c14n_rows.proofs.RunLemmas.{runs_at-more, entries_in, entries_out, runs_room, values-element, values-base, attribute_is_none, push_room}
+use Rattle.c14n_rows.proofs.StacksLemmas.{room_for_bases-all, room_for_bases-then, room_for_bases-same}
 use Rattle.c14n_rows.proofs.XmlLemmas.{put_one, put_none, put_room}
 use Rattle.c14n_rows.proofs.stacks.enter_runs.Goals as goal
 
@@ -45,6 +46,8 @@ loop-a-init c =
           ∙ ap (λ (l : List ℕ). runs_at rows set eleven (parent_of rows x) ++ l) (entries_out rows set x c.requires.element out ∙ ap (λ (ys : List ℕ). reverse (filter (is_base rows) ys)) c.own_rows-own.ensures.attributes));
       fit = c.requires.runs_fit;
       kept = omega arith;
+      values = c.requires.prepared_are;
+      bases_kept = room_for_bases-all c.args.prepared.now;
     }
 
 pub push_row-requires-then-is_base : goal.push_row-requires-then-is_base
@@ -65,6 +68,10 @@ loop-a-preserved-then-is_base c =
       rest = put_one (is_base rows) c.loop-a.runs.items _ own.first_attribute c.loop-a.a c.loop-a-test.true (sym c.if-is_base.ensures) c.loop-a.invariant.rest;
       fit = All-push (λ b. b < length rows) c.loop-a.runs.items _ c.loop-a.invariant.fit (omega arith);
       kept = omega (arith, c.push_row-then-is_base.ensures.capacity);
+      values = c.push.ensures.bases ∙ ap (λ (vs : List (List ℕ)). vs ++ c.as_bytes.result.now ∷ []) c.loop-a.invariant.values
+          ∙ ap (λ (v : List ℕ). values_on rows c.loop-a.runs.items ++ v ∷ []) (c.as_bytes.ensures.value ∙ c.value.ensures)
+          ∙ sym (values-base rows c.loop-a.runs.items _ (attribute_is_none rows c.args.x own.first_attribute own.first_child _ c.own_rows-own.ensures.attributes (omega arith) (omega arith)));
+      bases_kept = room_for_bases-then c.args.prepared.now c.loop-a.prepared c.push.new.self c.loop-a.invariant.bases_kept (room_for_bases-same c.loop-a.prepared c.push.new.self c.push.ensures.count c.push.ensures.room);
     })
 
 pub loop-a-preserved : goal.loop-a-preserved
@@ -77,4 +84,29 @@ loop-a-preserved c =
       rest = put_none (is_base rows) c.loop-a.runs.items _ own.first_attribute c.loop-a.a c.loop-a-test.true (sym c.if-is_base.ensures) c.loop-a.invariant.rest;
       fit = c.loop-a.invariant.fit;
       kept = c.loop-a.invariant.kept;
+      values = c.loop-a.invariant.values;
+      bases_kept = c.loop-a.invariant.bases_kept;
     }
+
+pub returns-then-contains-clause-prepared_are : goal.returns-then-contains-clause-prepared_are
+returns-then-contains-clause-prepared_are c =
+    c.requires.prepared_are ∙ sym (ap (values_on c.args.doc.now) c.push_row.ensures.items ∙ values-element c.args.doc.now c.args.runs.now.items c.args.x c.requires.element)
+
+pub returns-then-contains-clause-prepared_room : goal.returns-then-contains-clause-prepared_room
+returns-then-contains-clause-prepared_room c = room_for_bases-all c.args.prepared.now
+
+pub push-requires-clause-count : goal.push-requires-clause-count
+push-requires-clause-count c =
+    let rows = c.args.doc.now in let own = c.own_rows-own.result in
+    let i = c.loop-a.invariant.within in let t = c.loop-a-test.true in
+    let none = attribute_is_none rows c.args.x own.first_attribute own.first_child _ c.own_rows-own.ensures.attributes (omega arith) (omega arith) in
+    let rest = put_one (is_base rows) c.loop-a.runs.items _ own.first_attribute c.loop-a.a c.loop-a-test.true (sym c.if-is_base.ensures) c.loop-a.invariant.rest in
+    (push_room rows (in_view c.args.set) c.args.x _ c.loop-a.runs.items _ c.args.prepared.now c.loop-a.prepared rest none c.loop-a.invariant.values c.requires.octets c.loop-a.invariant.bases_kept).0
+
+pub push-requires-clause-room : goal.push-requires-clause-room
+push-requires-clause-room c =
+    let rows = c.args.doc.now in let own = c.own_rows-own.result in
+    let i = c.loop-a.invariant.within in let t = c.loop-a-test.true in
+    let none = attribute_is_none rows c.args.x own.first_attribute own.first_child _ c.own_rows-own.ensures.attributes (omega arith) (omega arith) in
+    let rest = put_one (is_base rows) c.loop-a.runs.items _ own.first_attribute c.loop-a.a c.loop-a-test.true (sym c.if-is_base.ensures) c.loop-a.invariant.rest in
+    rw (c.as_bytes.ensures.value ∙ c.value.ensures) (push_room rows (in_view c.args.set) c.args.x _ c.loop-a.runs.items _ c.args.prepared.now c.loop-a.prepared rest none c.loop-a.invariant.values c.requires.octets c.loop-a.invariant.bases_kept).1

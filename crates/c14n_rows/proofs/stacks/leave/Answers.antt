@@ -13,6 +13,7 @@ returns-then-is_element-clause-stacks c = record {
   xml_fit = c.leave_xml.ensures.xml_fit;
   runs_are = c.leave_run.ensures.runs_are;
   runs_fit = c.leave_run.ensures.runs_fit;
+  prepared_are = c.leave_run.ensures.prepared_are;
   is_joined = c.requires.stacks.is_joined;
 }
 
@@ -21,6 +22,7 @@ returns-then-is_element-clause-kept c = record {
   slots = let e = c.leave_slots.ensures.capacity in omega arith;
   xml = let e = c.leave_xml.ensures.capacity in omega arith;
   runs = let e = c.leave_run.ensures.capacity in omega arith;
+  prepared = c.leave_run.ensures.prepared_room;
   marks = omega arith;
   joining = bases-all c.args.stacks.now.joining;
 }

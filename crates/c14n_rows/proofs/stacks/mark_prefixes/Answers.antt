@@ -1,5 +1,5 @@
 use Rattle.std.proofs.Common.{arith}
-use Rattle.c14n_rows.proofs.StacksLemmas.{bases-all}
+use Rattle.c14n_rows.proofs.StacksLemmas.{bases-all, room_for_bases-all}
 use Rattle.c14n_rows.proofs.stacks.mark_prefixes.Goals as goal
 
 pub returns-clause-stacks : goal.returns-clause-stacks
@@ -12,6 +12,7 @@ returns-clause-stacks c =
       xml_fit = h.xml_fit;
       runs_are = h.runs_are;
       runs_fit = h.runs_fit;
+      prepared_are = h.prepared_are;
       is_joined = h.is_joined;
     }
 
@@ -20,6 +21,7 @@ returns-clause-kept c = record {
   slots = omega arith;
   xml = omega arith;
   runs = omega arith;
+  prepared = room_for_bases-all c.args.stacks.now.prepared;
   marks = c.mark_utilized.ensures.capacity;
   joining = bases-all c.args.stacks.now.joining;
 }

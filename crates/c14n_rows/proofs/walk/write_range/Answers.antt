@@ -80,7 +80,7 @@ open_row-requires-clause-stacks g c =
 pub open_row-requires-clause-room : goal.open_row-requires-clause-room
 open_row-requires-clause-room g c =
     let next = c.loop-next.next in
-    room-kept c.args.doc.now next c.args.stacks.now c.close_ended.new.stacks (keeps-then c.args.stacks.now c.loop-next.stacks c.close_ended.new.stacks c.loop-next.invariant.kept c.in_default.ensures.kept)
+    room-kept c.args.doc.now (rule_of c.args.method) next c.args.stacks.now c.close_ended.new.stacks (keeps-then c.args.stacks.now c.loop-next.stacks c.close_ended.new.stacks c.loop-next.invariant.kept c.in_default.ensures.kept)
     (c.requires.room.at next c.loop-next.auto.next c.loop-next-test.true)
 
 pub returns-in-Refused-clause-kept : goal.returns-in-Refused-clause-kept

@@ -1,3 +1,4 @@
+use Rattle.c14n_rows.specs.Rules.{rule_of}
 use Rattle.c14n_rows.proofs.StacksLemmas.{keeps-all, keeps_ordered-all, ordered_in-less, room_in-less}
 use Rattle.c14n_rows.proofs.walk.write_rows.Goals as goal
 
@@ -10,7 +11,7 @@ write_nothing-requires g c = rw c.doc-doc.ensures c.in-None.ensures
 pub write_walked-requires-clause-room : goal.write_walked-requires-clause-room
 write_walked-requires-clause-room g c =
     let walked = c.in-Some.ensures in
-    rw c.doc-doc.ensures (room_in-less _ 1 _ _ _ c.args.stacks.now walked.behind_root walked.within c.requires.room)
+    rw c.doc-doc.ensures (room_in-less _ (rule_of c.args.method) 1 _ _ _ c.args.stacks.now walked.behind_root walked.within c.requires.room)
 
 pub returns-in-None-clause-puts : goal.returns-in-None-clause-puts
 returns-in-None-clause-puts g c = rw (← c.doc-doc.ensures) c.write_nothing.ensures

@@ -1,4 +1,5 @@
 use Rattle.std.proofs.Common.{◌<◌, length, arith}
+use Rattle.c14n_rows.specs.Rules.{rule_of}
 use Rattle.c14n_rows.proofs.Chains.{parent_there}
 use Rattle.c14n_rows.proofs.StacksLemmas.{keeps-then, room-above, room_in-kept}
 use Rattle.c14n_rows.proofs.walk.write_walked.Goals as goal
@@ -14,10 +15,10 @@ enter_all-requires-clause-room g c =
     let pos = c.requires.walked.behind_root in let ordered = c.requires.walked.ordered in let within = c.requires.walked.within in
     let lt : start < length rows = omega arith in
     let before = w.nesting.parent_before start pos lt in let last = w.nesting.last_within start lt in let own = w.nesting.last_from start lt in
-    rw c.above.ensures (room-above rows w _ start c.args.stacks.now (omega arith) (omega arith) lt (c.requires.room.at start (omega arith) ordered))
+    rw c.above.ensures (room-above rows (rule_of c.args.method) w _ start c.args.stacks.now (omega arith) (omega arith) lt (c.requires.room.at start (omega arith) ordered))
 
 pub write_range-requires-clause-room : goal.write_range-requires-clause-room
-write_range-requires-clause-room g c = room_in-kept c.args.doc.now c.args.range.start c.args.range.until c.args.stacks.now _ c.enter_all.ensures.kept c.requires.room
+write_range-requires-clause-room g c = room_in-kept c.args.doc.now (rule_of c.args.method) c.args.range.start c.args.range.until c.args.stacks.now _ c.enter_all.ensures.kept c.requires.room
 
 pub returns-clause-kept : goal.returns-clause-kept
 returns-clause-kept g c = keeps-then c.args.stacks.now _ _ c.enter_all.ensures.kept c.write_range.ensures.kept
