@@ -3,15 +3,19 @@ use Rattle.std.proofs.Common.{◌≡◌, ℕ, ◌+◌, ◌-◌, ◌≤◌, ◌<�
 use Rattle.std.proofs.lemmas.Slice.{between_to_end}
 use Rattle.std.specs.List.{All, between, filter, find, flat_map, list_any, range_with_len}
 use Rattle.xml_doc.proofs.Ranges.{numbers, numbers-more, numbers-end}
+use Rattle.std.specs.declared.cmp.Ordering.{Ordering}
 use Rattle.std.specs.declared.cmp.Ordering.TheVariants.{Less, Equal, Greater}
 use Rattle.std.specs.Str.{bytes_eq}
-use Rattle.std.proofs.lemmas.Bool.{cases_Bool, cases_eq, cases_lt, eq-eqb, eqb-true, false≢true}
+use Rattle.std.proofs.lemmas.Bool.{and_parts, cases_Bool, cases_eq, cases_lt, eq-eqb, eqb-true, false_from_ne_true, false≢true}
 use Rattle.std.proofs.lemmas.List.{at_drop_more, drop_all, drop-drop, length-drop, length-take-le, reverse-append, reverse-reverse, take-append-drop}
 use Rattle.std.proofs.lemmas.List.FromFn.{length-range_with_len}
 use Rattle.std.proofs.Math.Seq.{drop-append_seam, take-append_seam}
 use Rattle.std.proofs.lemmas.List.Sorted.{All-permutation, IsPermutation-reverse}
 use Rattle.std.proofs.lemmas.List.Elements.{All-append, All-drop, All-take, All-head, All-same, All-nil, All-tail, All-weaker, filter-append, filter_passes}
 use Rattle.std.proofs.lemmas.Slice.Eq.{bytes_eq-Decides}
+use Rattle.std.proofs.lemmas.Map.Text.{is_eq-slice_cmp}
+use Rattle.std.specs.Cmp.Lexicographic.{slice_cmp}
+use Rattle.std.specs.Ordering.{is_eq, nat_cmp, ordering_then}
 use Rattle.xml_doc.specs.Kinds.{is_element}
 use Rattle.xml_doc.specs.Rows.{RowOf}
 use Rattle.xml_doc.specs.Shape.{row_at, IsWellShaped}
@@ -23,12 +27,46 @@ use Rattle.c14n_text.specs.Bases.{base_place, bases, is_eleven, is_none, joined_
 use Rattle.c14n_text.proofs.ChoiceLemmas.{Ascending}
 use Rattle.c14n_rows.specs.Stacks.{count_of, total, upwards}
 use Rattle.c14n_rows.specs.Code.Order.{may_import}
+use Rattle.c14n_rows.specs.Code.Nearest.{inherits, nearest_of}
 use Rattle.c14n_rows.specs.Code.Stacks.{xml_at}
 use Rattle.c14n_rows.proofs.EntryLemmas.{total-more}
-use Rattle.c14n_rows.proofs.OrderLaws.{agree, all_in_order, ascends_stand, drop_ascends, few_in_order, merge_less, merge_equal, merge_greater, order_both, order_front, order_back, stands_ascends}
+use Rattle.c14n_rows.proofs.OrderLaws.{agree, all_in_order, ascends_stand, drop_ascends, few_in_order, filter_order, merge_less, merge_equal, merge_greater, order_both, order_front, order_back, stands_ascends}
 use Rattle.c14n_rows.proofs.OrderLemmas.{filter-same, level_of, own_in_order}
 use Rattle.c14n_rows.proofs.StackLemmas.{no_attributes}
 use Rattle.c14n_rows.proofs.XmlLemmas.{few_filtered, xml_room}
+
+-- attributes at one place in the order have one local name
+name_level : (rows : List RowOf) (a b : ℕ) → attribute_cmp rows a b ≡ Equal → same_name rows a b ≡ true
+name_level rows a b e =
+    let l : List ℕ = (row_at rows a).local_name in let m : List ℕ = (row_at rows b).local_name in
+    let same : l ≡ m = (bytes_eq-Decides l m).0 (sym (is_eq-slice_cmp l m) ∙ ap is_eq (second (slice_cmp nat_cmp (row_at rows a).uri (row_at rows b).uri) (slice_cmp nat_cmp l m) e)) in
+    (bytes_eq-Decides m l).1 (sym same)
+  where
+    second : (u o : Ordering) → ordering_then u o ≡ Equal → o ≡ Equal
+    second Less o e = absurd (false≢true (ap is_eq e))
+    second Equal o e = e
+    second Greater o e = absurd (false≢true (ap is_eq e))
+
+filter_within : (p q : ℕ → Bool) → ((a : ℕ) → p a ≡ true → q a ≡ true) → (xs : List ℕ) → filter p (filter q xs) ≡ filter p xs
+filter_within p q within [] = refl
+filter_within p q within (a ∷ xs) = go (q a) refl (filter_within p q within xs)
+  where
+    go : (t : Bool) → q a ≡ t → filter p (filter q xs) ≡ filter p xs → filter p (cond t (a ∷ filter q xs) (filter q xs)) ≡ filter p (a ∷ xs)
+    go true e ih = ap (λ (ys : List ℕ). cond (p a) (a ∷ ys) ys) ih
+    go false e ih = ih ∙ sym (ap (λ (t : Bool). cond t (a ∷ filter p xs) (filter p xs)) (false_from_ne_true (p a) (λ (is : p a ≡ true). false≢true (sym e ∙ within a is))))
+
+-- to the root may be imported what the rule imports at all
+pub imports_of_root : (rows : List RowOf) → IsWellShaped rows → (rule : Rule) (xml : List ℕ) → in_order rows (filter (may_import rows rule 0) (reverse xml)) ≡ nearest_of rows rule xml
+imports_of_root rows w rule xml = ap (in_order rows) (filter-same (may_import rows rule 0) (inherits rows rule) same (reverse xml))
+  where
+    and_true : (t : Bool) → (t && true) ≡ t
+    and_true true = refl
+    and_true false = refl
+
+    same : (a : ℕ) → may_import rows rule 0 a ≡ inherits rows rule a
+    same a =
+        ap (λ (ks : List ℕ). inherits rows rule a && not (list_any (same_name rows a) (filter (is_xml rows) ks))) (no_attributes rows w 0 (ap is_element w.root_kind))
+        ∙ and_true (inherits rows rule a)
 
 module _ (rows : List RowOf) (rule : Rule) (x : ℕ) where
   abbrev may : ℕ → Bool
@@ -63,6 +101,19 @@ module _ (rows : List RowOf) (rule : Rule) (x : ℕ) where
   -- what may be imported is so by its name
   may_alike : (a b : ℕ) → same_name rows b a ≡ true → may b ≡ may a
   may_alike a b e = ap (λ (n : List ℕ). is_inheritable rule n && not (list_any (λ c. bytes_eq (row_at rows c).local_name n) (xml_attributes rows x))) (sym (name_is a b e))
+
+  -- of those of one name, all may be imported or none
+  level_alike : (a b : ℕ) → attribute_cmp rows a b ≡ Equal → may a ≡ may b
+  level_alike a b e = may_alike b a (name_level rows a b e)
+
+  inherited : (a : ℕ) → may a ≡ true → inherits rows rule a ≡ true
+  inherited a is = (and_parts (inherits rows rule a) (not (list_any (same_name rows a) (xml_attributes rows x))) is).0
+
+  -- what may be imported of the nearest of each name
+  pub imports_of_nearest : (xml : List ℕ) → filter may (nearest_of rows rule xml) ≡ in_order rows (filter may (reverse xml))
+  imports_of_nearest xml =
+      filter_order rows may level_alike (filter (inherits rows rule) (reverse xml))
+      ∙ ap (in_order rows) (filter_within may (inherits rows rule) inherited (reverse xml))
 
   level : (a b : ℕ) → is_xml rows a ≡ true → is_xml rows b ≡ true → same_name rows b a ≡ true → attribute_cmp rows a b ≡ Equal
   level a b is_a is_b e =

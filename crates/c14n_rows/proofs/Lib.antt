@@ -8,6 +8,7 @@ pub mod UtilizedLemmas
 pub mod OrderLemmas
 pub mod OrderLaws
 pub mod ImportLemmas
+pub mod NearestLemmas
 pub mod StackLemmas
 pub mod FrameLemmas
 pub mod XmlLemmas

@@ -219,3 +219,48 @@ module _ (rows : List RowOf) where
       go : put_in rows a (in_order rows (filter p s)) ≡ put_in rows a (in_order rows (filter q s)) → (R a b ≡ Equal) ⊎ (p b ≡ q b) → put_in rows a (in_order rows (filter p (b ∷ s))) ≡ put_in rows a (in_order rows (filter q (b ∷ s)))
       go ih (inl same) = lost same (p b) (filter p s) ∙ ih ∙ sym (lost same (q b) (filter q s))
       go ih (inr e) = ap (λ (t : Bool). put_in rows a (in_order rows (cond t (b ∷ filter p s) (filter p s)))) e ∙ both ih (q b) (R a b) refl
+
+  -- attributes of one name pass a test alike: then it makes no difference whether they are put in order first
+  module _ (p : ℕ → Bool) (alike_pass : (a b : ℕ) → R a b ≡ Equal → p a ≡ p b) where
+    kept_out : (a : ℕ) (s : List ℕ) → p a ≡ false → filter p (put_in rows a s) ≡ filter p s
+    kept_out a [] out = ap (λ (t : Bool). cond t (a ∷ []) []) out
+    kept_out a (b ∷ s) out = go (R a b) refl (kept_out a s out)
+      where
+        go : (o : Ordering) → R a b ≡ o → filter p (put_in rows a s) ≡ filter p s → filter p (placed o a b s (put_in rows a s)) ≡ filter p (b ∷ s)
+        go Less e ih = ap (λ (t : Bool). cond t (a ∷ filter p (b ∷ s)) (filter p (b ∷ s))) out
+        go Equal e ih = ap (λ (t : Bool). cond t (a ∷ filter p s) (filter p s)) out ∙ sym (ap (λ (t : Bool). cond t (b ∷ filter p s) (filter p s)) (sym (alike_pass a b e) ∙ out))
+        go Greater e ih = ap (λ (u : List ℕ). cond (p b) (b ∷ u) u) ih
+
+    behind_filter : (a : ℕ) (s : List ℕ) → Behind a s → Behind a (filter p s)
+    behind_filter a [] all = all
+    behind_filter a (b ∷ s) all = go (p b) (behind_filter a s all.1)
+      where
+        go : (t : Bool) → Behind a (filter p s) → Behind a (cond t (b ∷ filter p s) (filter p s))
+        go true more = (all.0, more)
+        go false more = more
+
+    kept_in : (a : ℕ) (s : List ℕ) → p a ≡ true → Ascending rows s → filter p (put_in rows a s) ≡ put_in rows a (filter p s)
+    kept_in a [] is asc = ap (λ (t : Bool). cond t (a ∷ []) []) is
+    kept_in a (b ∷ s) is asc = go (R a b) refl (kept_in a s is asc.1)
+      where
+        further : (t : Bool) → R a b ≡ Greater → filter p (put_in rows a s) ≡ put_in rows a (filter p s)
+            → cond t (b ∷ filter p (put_in rows a s)) (filter p (put_in rows a s)) ≡ put_in rows a (cond t (b ∷ filter p s) (filter p s))
+        further true e ih = ap (λ (u : List ℕ). b ∷ u) ih ∙ sym (put_greater a b (filter p s) e)
+        further false e ih = ih
+
+        go : (o : Ordering) → R a b ≡ o → filter p (put_in rows a s) ≡ put_in rows a (filter p s) → filter p (placed o a b s (put_in rows a s)) ≡ put_in rows a (filter p (b ∷ s))
+        go Less e ih =
+            ap (λ (t : Bool). cond t (a ∷ filter p (b ∷ s)) (filter p (b ∷ s))) is
+            ∙ sym (lead a (filter p (b ∷ s)) (behind_filter a (b ∷ s) (e, behind_further a b s e (behind_of b s asc))))
+        go Equal e ih =
+            ap (λ (t : Bool). cond t (a ∷ filter p s) (filter p s)) is
+            ∙ sym (ap (λ (t : Bool). put_in rows a (cond t (b ∷ filter p s) (filter p s))) (sym (alike_pass a b e) ∙ is) ∙ put_equal a b (filter p s) e)
+        go Greater e ih = further (p b) e ih
+
+    pub filter_order : (s : List ℕ) → filter p (in_order rows s) ≡ in_order rows (filter p s)
+    filter_order [] = refl
+    filter_order (a ∷ s) = go (p a) refl (filter_order s)
+      where
+        go : (t : Bool) → p a ≡ t → filter p (in_order rows s) ≡ in_order rows (filter p s) → filter p (put_in rows a (in_order rows s)) ≡ in_order rows (cond t (a ∷ filter p s) (filter p s))
+        go true e ih = kept_in a (in_order rows s) e (in_order-ascends rows s) ∙ ap (put_in rows a) ih
+        go false e ih = kept_out a (in_order rows s) e ∙ ih

@@ -16,11 +16,12 @@ use Rattle.c14n_rows.specs.declared.stacks.Stacks.{Stacks}
 use Rattle.c14n_rows.specs.declared.bases.Joining.{Joining}
 use Rattle.c14n_rows.specs.Joined.{BasesFit, PreparedFit}
 use Rattle.c14n_rows.specs.Code.Joined.{IsRun, KeepsBases}
-use Rattle.c14n_rows.specs.Stacks.{count_of, octets_of, total, upwards, IsEmpty, OrderedIn, RoomAt, RoomIn}
+use Rattle.c14n_rows.specs.Stacks.{count_of, octets_of, total, upwards, IsEmpty, OrderedAt, OrderedIn, RoomAt, RoomIn}
 use Rattle.c14n_rows.specs.Code.Stacks.{run_bases, values_on, HasRoom, IsTaken, IsTakenFor, Keeps, KeepsOrdered, KeepsRoom, SlotFits, StacksAt}
 use Rattle.c14n_rows.proofs.StackLemmas.{slots_at-skip, slots_at-root, xml_at-skip, xml_at-root}
 use Rattle.c14n_rows.proofs.RunLemmas.{runs_at-skip, runs_at-root}
 use Rattle.c14n_rows.proofs.EntryLemmas.{total-above}
+use Rattle.c14n_rows.proofs.NearestLemmas.{nearest-none}
 
 pub stacks-skip : (rows : List RowOf) (set : ℕ → Bool) (rule : Rule) → IsWellShaped rows → (x : ℕ) (stacks : Stacks) → (x ≡ 0 → ⊥) → x < length rows → is_element (kind_of rows x) ≡ false
     → StacksAt rows set rule (parent_of rows x) stacks → StacksAt rows set rule x stacks
@@ -29,6 +30,7 @@ stacks-skip rows set rule w x stacks not_root lt is h = record {
   slots_fit = h.slots_fit;
   xml_are = h.xml_are ∙ sym (xml_at-skip rows w x not_root lt is);
   xml_fit = h.xml_fit;
+  nearest_are = h.nearest_are;
   runs_are = h.runs_are ∙ sym (runs_at-skip rows set rule w x not_root lt is);
   runs_fit = h.runs_fit;
   prepared_are = h.prepared_are;
@@ -42,6 +44,7 @@ stacks-unskip rows set rule w x stacks not_root lt is h = record {
   slots_fit = h.slots_fit;
   xml_are = h.xml_are ∙ xml_at-skip rows w x not_root lt is;
   xml_fit = h.xml_fit;
+  nearest_are = h.nearest_are;
   runs_are = h.runs_are ∙ runs_at-skip rows set rule w x not_root lt is;
   runs_fit = h.runs_fit;
   prepared_are = h.prepared_are;
@@ -54,6 +57,7 @@ stacks-root rows set rule w stacks none = record {
   slots_fit = All-same (SlotFits rows) stacks.slots.items [] none.slots (All-nil (SlotFits rows));
   xml_are = none.xml ∙ sym (xml_at-root rows w);
   xml_fit = All-same (λ a. a < length rows) stacks.xml.items [] none.xml (All-nil (λ a. a < length rows));
+  nearest_are = nearest-none rows rule stacks.xml.items stacks.nearest none.parts;
   runs_are = none.runs ∙ sym (runs_at-root rows set rule w);
   runs_fit = All-same (λ b. b < length rows) stacks.runs.items [] none.runs (All-nil (λ b. b < length rows));
   prepared_are = none.prepared ∙ sym (ap (values_on rows) none.runs);
@@ -204,15 +208,14 @@ keeps_ordered-then old now new a b = record {
   spare = let m = a.spare in let n = b.spare in omega arith;
 }
 
-pub ordered_in-kept : (rows : List RowOf) (first until : ℕ) (old new : Ordered) → KeepsOrdered old new → OrderedIn rows first until old → OrderedIn rows first until new
-ordered_in-kept rows first until old new k r = record {
-  at = λ (x : ℕ) (le : first ≤ x) (lt : x < until).
-      let room = r.at x le lt in
-      record {
-        attributes = let m = room.attributes in let n = k.attributes in omega arith;
-        spare = let m = room.spare in let n = k.spare in omega arith;
-      };
+pub ordered_at-kept : (rows : List RowOf) (x : ℕ) (old new : Ordered) → KeepsOrdered old new → OrderedAt rows x old → OrderedAt rows x new
+ordered_at-kept rows x old new k room = record {
+  attributes = let m = room.attributes in let n = k.attributes in omega arith;
+  spare = let m = room.spare in let n = k.spare in omega arith;
 }
+
+pub ordered_in-kept : (rows : List RowOf) (first until : ℕ) (old new : Ordered) → KeepsOrdered old new → OrderedIn rows first until old → OrderedIn rows first until new
+ordered_in-kept rows first until old new k r = record { at = λ (x : ℕ) (le : first ≤ x) (lt : x < until). ordered_at-kept rows x old new k (r.at x le lt) }
 
 pub ordered_in-less : (rows : List RowOf) (first until start fin : ℕ) (ordered : Ordered) → first ≤ start → fin ≤ until → OrderedIn rows first until ordered → OrderedIn rows start fin ordered
 ordered_in-less rows first until start fin ordered le less r = record { at = λ (x : ℕ) (ge : start ≤ x) (lt : x < fin). r.at x (omega arith) (omega arith) }

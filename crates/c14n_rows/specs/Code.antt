@@ -3,3 +3,4 @@ pub mod Joined
 pub mod Stacks
 pub mod Utilized
 pub mod Order
+pub mod Nearest

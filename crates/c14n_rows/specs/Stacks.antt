@@ -44,6 +44,7 @@ pub record RoomIn (rows : List RowOf) (rule : Rule) (first until : ℕ) (stacks 
 pub record IsEmpty (stacks : Stacks) : Type 0 where
   pub slots : stacks.slots.items ≡ []
   pub xml : stacks.xml.items ≡ []
+  pub parts : stacks.nearest.used ≡ 0
   pub runs : stacks.runs.items ≡ []
   pub prepared : stacks.prepared.bases ≡ []
   pub nearest : stacks.joining.nearest ≡ None

@@ -11,11 +11,13 @@ ghost use Rattle.c14n_text.specs.Rows.{parent_of};
 ghost use Rattle.c14n_text.specs.Attributes.{is_xml, imported, in_order, is_inclusive, imports_attributes};
 ghost use Rattle.c14n_text.specs.Bases.{base_place, is_own, joined_base, row_attribute, attributes_octets, written_attributes};
 ghost use Rattle.c14n_rows.specs.Code.Joined.{BaseThere, base_of};
+ghost use Rattle.c14n_rows.specs.Code.Nearest.{NearestAt};
 ghost use Rattle.c14n_rows.specs.Code.Stacks.{xml_at, KeepsOrdered, StacksAt};
 
 use crate::bases::{Base, is_base};
 use crate::imports::{Ordered, put_together};
 use crate::namespaces::Method;
+use crate::nearest::Nearest;
 use crate::stacks::Stacks;
 use c14n_text::{put_attribute, put_attribute_octets};
 use node_sets::SetView;
@@ -70,6 +72,7 @@ fn put_in_order<S: OctetSink>(
     set: SetView<'_>,
     method: Method<'_, '_>,
     xml: &[u32],
+    nearest: &Nearest,
     base: Option<Base<'_>>,
     x: u32,
     ordered: &mut Ordered,
@@ -78,6 +81,7 @@ fn put_in_order<S: OctetSink>(
     requires here { x < length doc.now }
     requires xml_are { xml.now ≡ xml_at doc.now (parent_of doc.now x) }
     requires xml_fit { All (λ b. b < length doc.now) xml.now }
+    requires nearest_are { NearestAt doc.now (rule_of method) xml.now nearest.now }
     requires base { BaseThere doc.now base }
     requires room { length (attribute_rows doc.now x) + length xml.now + length (base_place (base_of base))
         ≤ vec_capacity ordered.old.attributes }
@@ -89,7 +93,7 @@ fn put_in_order<S: OctetSink>(
         ++ imported doc.now (rule_of method.entry) x ++ base_place (base_of base.entry)))) result }
     ensures kept { KeepsOrdered ordered.old ordered.new }
 {
-    put_together(doc, set, method, xml, base, x, ordered);
+    put_together(doc, set, method, xml, nearest, base, x, ordered);
     put_rows(doc, base, &ordered.attributes, sink)
 }
 
@@ -221,7 +225,17 @@ pub(crate) fn put_attributes<S: OctetSink>(
 {
     let _rows = doc.rows();
     if writes_others(doc, set, method, &stacks.xml, base, x) {
-        put_in_order(doc, set, method, &stacks.xml, base, x, ordered, sink)
+        put_in_order(
+            doc,
+            set,
+            method,
+            &stacks.xml,
+            &stacks.nearest,
+            base,
+            x,
+            ordered,
+            sink,
+        )
     } else {
         let own = doc.own_rows(x);
         put_rows_in_set(doc, set, base, own.first_attribute, own.first_child, sink)

@@ -14,10 +14,12 @@ ghost use Rattle.c14n_rows.specs.Rules.{rule_of};
 ghost use Rattle.c14n_rows.specs.Code.Joined.{BaseThere, base_of};
 ghost use Rattle.c14n_rows.specs.Code.Stacks.{xml_at, KeepsOrdered};
 ghost use Rattle.c14n_rows.specs.Code.Order.{IsBehindFrom, may_import};
+ghost use Rattle.c14n_rows.specs.Code.Nearest.{NearestAt};
 
 use crate::attributes::{is_own, is_xml};
 use crate::bases::Base;
 use crate::namespaces::Method;
+use crate::nearest::{Nearest, push_nearest};
 use crate::stacks::push_row;
 use node_sets::SetView;
 use std::cmp::Ordering;
@@ -166,7 +168,7 @@ fn append(list: &mut Vec<u32>, more: &[u32])
 }
 
 /// Puts the attributes from place `start` on in order, where those to before place `middle` stand in order, and those from it on.
-fn merge(doc: &Doc<'_>, ordered: &mut Ordered, start: usize, middle: usize)
+pub(crate) fn merge(doc: &Doc<'_>, ordered: &mut Ordered, start: usize, middle: usize)
     requires fit { All (λ a. a < length doc.now) ordered.old.attributes.items }
     requires start { start ≤ middle }
     requires middle { middle ≤ length ordered.old.attributes.items }
@@ -193,7 +195,7 @@ fn merge(doc: &Doc<'_>, ordered: &mut Ordered, start: usize, middle: usize)
 }
 
 /// Appends an `xml:` attribute where it is imported to element `x`.
-fn push_import(
+pub(crate) fn push_import(
     doc: &Doc<'_>,
     method: Method<'_, '_>,
     own: OwnRows,
@@ -214,7 +216,7 @@ fn push_import(
 }
 
 /// Appends in order those that may be imported to element `x` of these `xml:` attributes, of which the nearest stand last: by halves.
-fn push_imports(
+pub(crate) fn push_imports(
     doc: &Doc<'_>,
     method: Method<'_, '_>,
     own: OwnRows,
@@ -318,6 +320,7 @@ pub(crate) fn put_together(
     set: SetView<'_>,
     method: Method<'_, '_>,
     xml: &[u32],
+    nearest: &Nearest,
     base: Option<Base<'_>>,
     x: u32,
     ordered: &mut Ordered,
@@ -325,6 +328,7 @@ pub(crate) fn put_together(
     requires here { x < length doc.now }
     requires xml_are { xml.now ≡ xml_at doc.now (parent_of doc.now x) }
     requires xml_fit { All (λ b. b < length doc.now) xml.now }
+    requires nearest_are { NearestAt doc.now (rule_of method) xml.now nearest.now }
     requires base { BaseThere doc.now base }
     requires room { length (attribute_rows doc.now x) + length xml.now + length (base_place (base_of base))
         ≤ vec_capacity ordered.old.attributes }
@@ -348,7 +352,7 @@ pub(crate) fn put_together(
         &mut ordered.attributes,
     );
     let middle = ordered.attributes.len();
-    push_imports(doc, method, own, x, xml, ordered);
+    push_nearest(doc, method, own, x, nearest, xml, ordered);
     merge(doc, ordered, 0, middle);
     push_base(doc, base, ordered);
 }

@@ -11,6 +11,7 @@ mod bases;
 mod imports;
 mod names;
 mod namespaces;
+mod nearest;
 mod prefixes;
 mod renderer;
 mod rows;

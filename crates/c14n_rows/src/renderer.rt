@@ -17,6 +17,7 @@ use crate::attributes::is_element;
 use crate::bases::{Joining, is_base, is_eleven};
 use crate::imports::Ordered;
 use crate::namespaces::Method;
+use crate::nearest::{FEW, Nearest, Part};
 use crate::stacks::Stacks;
 use crate::walk::{walked_range, write_nothing, write_rows, write_walked};
 use c14n_bases::{Bases, Joined};
@@ -209,6 +210,26 @@ fn buffers(alloc: Global, room: usize) -> Result<Joining, NoMemory>
     })
 }
 
+/// Room to keep the nearest of so many `xml:` attributes for parts of their stack: twice as many rows, since that is the most that
+/// is kept.
+fn room_for_nearest(alloc: Global, entries: usize) -> Result<Nearest, NoMemory>
+    ensures { IfOk result (λ n. n.used ≡ 0) }
+{
+    let count = add(entries, entries)?;
+    let rows = vec![in alloc; 0u32; count]?;
+    let none = Part {
+        count: 0,
+        from: 0,
+        until: 0,
+    };
+    let parts = vec![in alloc; none; entries / FEW]?;
+    Ok(Nearest {
+        rows,
+        parts,
+        used: 0,
+    })
+}
+
 /// Stacks for this many entries, and buffers for this many octets.
 fn take_stacks(alloc: Global, entries: usize, octets: usize) -> Result<Stacks, NoMemory>
     ensures empty { IfOk result (λ s. IsEmpty s) }
@@ -216,6 +237,7 @@ fn take_stacks(alloc: Global, entries: usize, octets: usize) -> Result<Stacks, N
 {
     let slots = Vec::with_capacity(alloc, entries)?;
     let xml = Vec::with_capacity(alloc, entries)?;
+    let nearest = room_for_nearest(alloc, entries)?;
     let runs = Vec::with_capacity(alloc, entries)?;
     let prepared = room_for_bases(alloc, octets)?;
     let marks = Vec::with_capacity(alloc, entries)?;
@@ -223,6 +245,7 @@ fn take_stacks(alloc: Global, entries: usize, octets: usize) -> Result<Stacks, N
     Ok(Stacks {
         slots,
         xml,
+        nearest,
         runs,
         prepared,
         marks,
@@ -363,6 +386,7 @@ impl<'d> Renderer<'d> {
         );
         self.stacks.slots.clear();
         self.stacks.xml.clear();
+        self.stacks.nearest.used = 0;
         self.stacks.runs.clear();
         self.stacks.prepared.truncate(0);
         self.stacks.joining.nearest = None;

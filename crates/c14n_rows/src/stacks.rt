@@ -23,6 +23,7 @@ use crate::attributes::{is_element, is_xml};
 use crate::bases::{Joining, is_base, is_eleven};
 use crate::names::row_named;
 use crate::namespaces::{Method, is_default, renders, renders_default};
+use crate::nearest::{Nearest, forget};
 use crate::utilized::mark_utilized;
 use c14n_bases::Bases;
 use node_sets::SetView;
@@ -48,6 +49,8 @@ pub(crate) struct Frame<'s> {
 pub(crate) struct Stacks {
     pub slots: Vec<Slot>,
     pub xml: Vec<u32>,
+    /// The nearest of the rows of `xml`.
+    pub nearest: Nearest,
     pub runs: Vec<u32>,
     /// The values of those rows of `runs` that are no elements.
     pub prepared: Bases,
@@ -551,6 +554,7 @@ pub(crate) fn leave(
     if is_element(doc.kind(x)) {
         leave_slots(doc, set, method, &mut stacks.slots, x);
         leave_xml(doc, &mut stacks.xml, x);
+        forget(&mut stacks.nearest, stacks.xml.len());
         leave_run(doc, set, method, &mut stacks.runs, &mut stacks.prepared, x);
     }
 }

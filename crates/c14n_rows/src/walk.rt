@@ -13,6 +13,7 @@ ghost use Rattle.c14n_text.specs.Code.Progress.{Progress, Closed, whole};
 use crate::bases::{joined_base, lend};
 use crate::imports::Ordered;
 use crate::namespaces::Method;
+use crate::nearest::keep_imports;
 use crate::rows::{put_closing, put_opening};
 use crate::stacks::{Stacks, enter, enter_all, leave, mark_prefixes};
 use node_sets::SetView;
@@ -91,6 +92,7 @@ fn open_row<S: OctetSink>(
     ensures kept { Keeps stacks.old stacks.new }
     ensures ordered_kept { KeepsOrdered ordered.old ordered.new }
 {
+    keep_imports(doc, set, method, stacks, ordered, x);
     let found = joined_base(doc, set, method, stacks, x);
     mark_prefixes(doc, set, method, stacks, x);
     let base = lend(found, &stacks.joining);

@@ -21,6 +21,7 @@ use Rattle.c14n_rows.specs.declared.renderer.Counted.{Counted}
 use Rattle.c14n_rows.specs.declared.renderer.Counted.TheVariants.{Entries, Values}
 use Rattle.c14n_rows.specs.Joined.{BasesFit, PreparedFit}
 use Rattle.c14n_rows.specs.Code.Joined.{IsRun, KeepsBases}
+use Rattle.c14n_rows.specs.Code.Nearest.{NearestAt}
 use Rattle.c14n_rows.specs.Stacks.{upwards, count_of, octets_of, total}
 
 -- namespace row z is of this prefix
@@ -112,6 +113,7 @@ pub record StacksAt (rows : List RowOf) (set : ℕ → Bool) (rule : Rule) (x : 
   pub slots_fit : All (SlotFits rows) stacks.slots.items
   pub xml_are : stacks.xml.items ≡ xml_at rows x
   pub xml_fit : All (λ a. a < length rows) stacks.xml.items
+  pub nearest_are : NearestAt rows rule stacks.xml.items stacks.nearest
   pub runs_are : stacks.runs.items ≡ runs_at rows set rule x
   pub runs_fit : All (λ b. b < length rows) stacks.runs.items
   pub prepared_are : stacks.prepared.bases ≡ values_on rows stacks.runs.items

@@ -76,6 +76,7 @@ returns-in-Some-clause-stacks c =
       slots_fit = h.slots_fit;
       xml_are = h.xml_are;
       xml_fit = h.xml_fit;
+      nearest_are = h.nearest_are;
       runs_are = h.runs_are;
       runs_fit = h.runs_fit;
       prepared_are = h.prepared_are;

@@ -23,11 +23,11 @@ push_own-requires-clause-room c =
     let room = c.requires.room in let l = c.clear.ensures.capacity in
     omega arith
 
-pub push_imports-requires-clause-xml_are : goal.push_imports-requires-clause-xml_are
-push_imports-requires-clause-xml_are c = rw c.requires.xml_are (stack_xml c.args.doc.now (rule_of c.args.method) c.args.x)
+pub push_nearest-requires-clause-xml_are : goal.push_nearest-requires-clause-xml_are
+push_nearest-requires-clause-xml_are c = rw c.requires.xml_are (stack_xml c.args.doc.now (rule_of c.args.method) c.args.x)
 
-pub push_imports-requires-clause-room : goal.push_imports-requires-clause-room
-push_imports-requires-clause-room c =
+pub push_nearest-requires-clause-room : goal.push_nearest-requires-clause-room
+push_nearest-requires-clause-room c =
     let own = c.own_rows-own.result in let p = is_own c.args.doc.now (in_view c.args.set) (base_of c.args.base) in
     let few = few_own p c.clear.new.self.items c.push_own.new.attributes.items own.first_attribute (own.first_child - own.first_attribute) c.push_own.ensures.items in
     let n = ap (length {A = ℕ}) c.clear.ensures.items in let m = ap (length {A = ℕ}) c.own_rows-own.ensures.attributes in
@@ -35,8 +35,8 @@ push_imports-requires-clause-room c =
     let room = c.requires.room in let l = c.clear.ensures.capacity in let j = c.push_own.ensures.capacity in
     omega arith
 
-pub push_imports-requires-clause-spare : goal.push_imports-requires-clause-spare
-push_imports-requires-clause-spare c =
+pub push_nearest-requires-clause-spare : goal.push_nearest-requires-clause-spare
+push_nearest-requires-clause-spare c =
     let own = c.own_rows-own.result in let p = is_own c.args.doc.now (in_view c.args.set) (base_of c.args.base) in
     let few = few_own p c.clear.new.self.items c.push_own.new.attributes.items own.first_attribute (own.first_child - own.first_attribute) c.push_own.ensures.items in
     let n = ap (length {A = ℕ}) c.clear.ensures.items in let m = ap (length {A = ℕ}) c.own_rows-own.ensures.attributes in
@@ -48,14 +48,14 @@ pub merge-requires-clause-first : goal.merge-requires-clause-first
 merge-requires-clause-first c =
     let rows = c.args.doc.now in let own = c.own_rows-own.result in let p = is_own rows (in_view c.args.set) (base_of c.args.base) in
     let written = filter p (range_with_len own.first_attribute (own.first_child - own.first_attribute)) in
-    first_run rows [] written _ c.push_own.new.attributes.items c.push_imports.new.ordered.attributes.items (c.push_own.ensures.items ∙ ap (λ (l : List ℕ). l ++ written) c.clear.ensures.items) c.push_imports.ensures.attributes 0 c.len-middle.result refl (omega arith)
+    first_run rows [] written _ c.push_own.new.attributes.items c.push_nearest.new.ordered.attributes.items (c.push_own.ensures.items ∙ ap (λ (l : List ℕ). l ++ written) c.clear.ensures.items) c.push_nearest.ensures.attributes 0 c.len-middle.result refl (omega arith)
     (own_stands rows c.rows-rows.ensures.shaped c.args.x own.first_attribute own.first_child c.own_rows-own.ensures.ordered c.own_rows-own.ensures.within c.own_rows-own.ensures.attributes p)
 
 pub merge-requires-clause-second : goal.merge-requires-clause-second
 merge-requires-clause-second c =
     let rows = c.args.doc.now in let own = c.own_rows-own.result in let p = is_own rows (in_view c.args.set) (base_of c.args.base) in
     let written = filter p (range_with_len own.first_attribute (own.first_child - own.first_attribute)) in
-    second_run rows [] written _ c.push_own.new.attributes.items c.push_imports.new.ordered.attributes.items (c.push_own.ensures.items ∙ ap (λ (l : List ℕ). l ++ written) c.clear.ensures.items) c.push_imports.ensures.attributes 0 c.len-middle.result refl (omega arith)
+    second_run rows [] written _ c.push_own.new.attributes.items c.push_nearest.new.ordered.attributes.items (c.push_own.ensures.items ∙ ap (λ (l : List ℕ). l ++ written) c.clear.ensures.items) c.push_nearest.ensures.attributes 0 c.len-middle.result refl (omega arith)
     (order_again rows (filter (may_import rows (rule_of c.args.method) c.args.x) (reverse c.args.xml.now)))
 
 pub merge-requires-clause-room : goal.merge-requires-clause-room
@@ -65,7 +65,7 @@ merge-requires-clause-room c =
     let n = ap (length {A = ℕ}) c.clear.ensures.items in let m = ap (length {A = ℕ}) c.own_rows-own.ensures.attributes in
     let k = length-range_with_len own.first_attribute (own.first_child - own.first_attribute) in
     let room = c.requires.room in let l = c.clear.ensures.capacity in let j = c.push_own.ensures.capacity in
-    let more = c.push_imports.ensures.few in let i = c.push_imports.ensures.attributes_kept in
+    let more = c.push_nearest.ensures.few in let i = c.push_nearest.ensures.attributes_kept in
     omega arith
 
 pub merge-requires-clause-spare : goal.merge-requires-clause-spare
@@ -74,14 +74,14 @@ merge-requires-clause-spare c =
     let few = few_own p c.clear.new.self.items c.push_own.new.attributes.items own.first_attribute (own.first_child - own.first_attribute) c.push_own.ensures.items in
     let n = ap (length {A = ℕ}) c.clear.ensures.items in let m = ap (length {A = ℕ}) c.own_rows-own.ensures.attributes in
     let k = length-range_with_len own.first_attribute (own.first_child - own.first_attribute) in
-    let spare = c.requires.spare in let more = c.push_imports.ensures.few in let i = c.push_imports.ensures.spare_kept in
+    let spare = c.requires.spare in let more = c.push_nearest.ensures.few in let i = c.push_nearest.ensures.spare_kept in
     omega arith
 
 pub push_base-requires-clause-stand : goal.push_base-requires-clause-stand
 push_base-requires-clause-stand c =
     let rows = c.args.doc.now in let own = c.own_rows-own.result in let p = is_own rows (in_view c.args.set) (base_of c.args.base) in
     let written = filter p (range_with_len own.first_attribute (own.first_child - own.first_attribute)) in
-    let e = merged_runs rows [] written _ c.push_own.new.attributes.items c.push_imports.new.ordered.attributes.items (c.push_own.ensures.items ∙ ap (λ (l : List ℕ). l ++ written) c.clear.ensures.items) c.push_imports.ensures.attributes 0 c.len-middle.result refl (omega arith) c.merge.new.ordered.attributes.items c.merge.ensures.attributes in
+    let e = merged_runs rows [] written _ c.push_own.new.attributes.items c.push_nearest.new.ordered.attributes.items (c.push_own.ensures.items ∙ ap (λ (l : List ℕ). l ++ written) c.clear.ensures.items) c.push_nearest.ensures.attributes 0 c.len-middle.result refl (omega arith) c.merge.new.ordered.attributes.items c.merge.ensures.attributes in
     ap (in_order rows) e ∙ order_again rows (written ++ in_order rows (filter (may_import rows (rule_of c.args.method) c.args.x) (reverse c.args.xml.now))) ∙ sym e
 
 pub push_base-requires-clause-room : goal.push_base-requires-clause-room
@@ -91,7 +91,7 @@ push_base-requires-clause-room c =
     let n = ap (length {A = ℕ}) c.clear.ensures.items in let m = ap (length {A = ℕ}) c.own_rows-own.ensures.attributes in
     let k = length-range_with_len own.first_attribute (own.first_child - own.first_attribute) in
     let room = c.requires.room in let l = c.clear.ensures.capacity in let j = c.push_own.ensures.capacity in
-    let more = c.push_imports.ensures.few in let i = c.push_imports.ensures.attributes_kept in let less = c.merge.ensures.few in let h = c.merge.ensures.kept.attributes in
+    let more = c.push_nearest.ensures.few in let i = c.push_nearest.ensures.attributes_kept in let less = c.merge.ensures.few in let h = c.merge.ensures.kept.attributes in
     omega arith
 
 pub push_base-requires-clause-spare : goal.push_base-requires-clause-spare
@@ -101,14 +101,14 @@ push_base-requires-clause-spare c =
     let n = ap (length {A = ℕ}) c.clear.ensures.items in let m = ap (length {A = ℕ}) c.own_rows-own.ensures.attributes in
     let k = length-range_with_len own.first_attribute (own.first_child - own.first_attribute) in
     let spare = c.requires.spare in
-    let more = c.push_imports.ensures.few in let i = c.push_imports.ensures.spare_kept in let less = c.merge.ensures.few in let h = c.merge.ensures.kept.spare in
+    let more = c.push_nearest.ensures.few in let i = c.push_nearest.ensures.spare_kept in let less = c.merge.ensures.few in let h = c.merge.ensures.kept.spare in
     omega arith
 
 pub returns-clause-attributes : goal.returns-clause-attributes
 returns-clause-attributes c =
     let rows = c.args.doc.now in let rule = rule_of c.args.method in let own = c.own_rows-own.result in let p = is_own rows (in_view c.args.set) (base_of c.args.base) in let place = base_place (base_of c.args.base) in
     let written = filter p (range_with_len own.first_attribute (own.first_child - own.first_attribute)) in
-    let e = merged_runs rows [] written _ c.push_own.new.attributes.items c.push_imports.new.ordered.attributes.items (c.push_own.ensures.items ∙ ap (λ (l : List ℕ). l ++ written) c.clear.ensures.items) c.push_imports.ensures.attributes 0 c.len-middle.result refl (omega arith) c.merge.new.ordered.attributes.items c.merge.ensures.attributes in
+    let e = merged_runs rows [] written _ c.push_own.new.attributes.items c.push_nearest.new.ordered.attributes.items (c.push_own.ensures.items ∙ ap (λ (l : List ℕ). l ++ written) c.clear.ensures.items) c.push_nearest.ensures.attributes 0 c.len-middle.result refl (omega arith) c.merge.new.ordered.attributes.items c.merge.ensures.attributes in
     c.push_base.ensures.attributes
     ∙ ap (λ (l : List ℕ). in_order rows (l ++ place)) e
     ∙ together rows rule c.args.x written c.args.xml.now place c.requires.xml_are
@@ -116,6 +116,6 @@ returns-clause-attributes c =
 
 pub returns-clause-kept : goal.returns-clause-kept
 returns-clause-kept c = record {
-  attributes = let l = c.clear.ensures.capacity in let j = c.push_own.ensures.capacity in let i = c.push_imports.ensures.attributes_kept in let h = c.merge.ensures.kept.attributes in let g = c.push_base.ensures.kept.attributes in omega arith;
-  spare = let i = c.push_imports.ensures.spare_kept in let h = c.merge.ensures.kept.spare in let g = c.push_base.ensures.kept.spare in omega arith;
+  attributes = let l = c.clear.ensures.capacity in let j = c.push_own.ensures.capacity in let i = c.push_nearest.ensures.attributes_kept in let h = c.merge.ensures.kept.attributes in let g = c.push_base.ensures.kept.attributes in omega arith;
+  spare = let i = c.push_nearest.ensures.spare_kept in let h = c.merge.ensures.kept.spare in let g = c.push_base.ensures.kept.spare in omega arith;
 }

@@ -3,6 +3,7 @@ use Rattle.xml_doc.specs.Kinds.{is_element}
 use Rattle.node_sets.specs.View.{in_view}
 use Rattle.c14n_rows.specs.Rules.{rule_of}
 use Rattle.c14n_rows.proofs.StacksLemmas.{stacks-skip, bases-all, keeps-all}
+use Rattle.c14n_rows.proofs.NearestLemmas.{nearest-entered}
 use Rattle.c14n_rows.proofs.stacks.enter.Goals as goal
 
 pub returns-then-is_element-clause-stacks : goal.returns-then-is_element-clause-stacks
@@ -11,6 +12,9 @@ returns-then-is_element-clause-stacks c = record {
   slots_fit = c.enter_slots.ensures.slots_fit;
   xml_are = c.enter_xml.ensures.xml_are;
   xml_fit = c.enter_xml.ensures.xml_fit;
+  nearest_are =
+      let h = c.requires.stacks in
+      nearest-entered c.args.doc.now c.rows-rows.ensures.shaped (rule_of c.args.method) c.args.x c.requires.below c.requires.here c.args.stacks.now.xml.items c.enter_xml.new.xml.items c.args.stacks.now.nearest h.xml_are c.enter_xml.ensures.xml_are h.nearest_are;
   runs_are = c.enter_run.ensures.runs_are;
   runs_fit = c.enter_run.ensures.runs_fit;
   prepared_are = c.enter_run.ensures.prepared_are;
